@@ -1,0 +1,22 @@
+use mir.Syntax.{w32}
+use mir.ValLaws.{toZ-ofZ}
+use borrow.Author.Needs.{needs}
+use Rattle.axis.proofs.Axis.holds.Statement.{statement}
+use Rattle.axis.proofs.Axis.holds.Tie as tie
+use Rattle.axis.proofs.Axis.holds.Reads as reads
+use Rattle.axis.proofs.Axis.holds.Lts as lts
+
+cast-top : tie.Need-cast-top
+cast-top c = search needs
+
+sub-if1 : tie.Need-sub-if1
+sub-if1 c = search needs
+
+returns : tie.Need-returns
+returns c = let e = toZ-ofZ w32 (c .before .args .c) (c .before .fits .c) in rw (e, rw e at (c .if1 .taken))
+
+returns-2 : tie.Need-returns-2
+returns-2 c = let e = toZ-ofZ w32 (c .before .args .c) (c .before .fits .c) in rw (e, rw e at (c .if1 .left))
+
+pub holds-spec : {M : Type 1} → statement M
+holds-spec = tie.close (tie.spec cast-top sub-if1 returns returns-2)

@@ -1,0 +1,51 @@
+-- Document 01, "Numbers accepted" and the code table's rows on axes. Definitions only. Assumes nothing.
+use Prim.Native.Nat.{ℕ}
+use mathlib.Core.Bool.{Bool, _&&_, _||_, not, cond}
+use mathlib.Core.List.{List, [], _∷_}
+use lib.IntN.{ℤ, pos, negℤ}
+use lib.Signed.{leZ}
+use lib.Dec.{ltb, eqb}
+use Rattle.axis.specs.declared.Axis.{Axis}
+use Rattle.axis.specs.declared.Checked.{Checked}
+use Rattle.axis.specs.declared.Checked.the-variants.{Fine, Refused}
+use Rattle.axis.specs.Leg.{planes}
+
+-- the greatest n and d, and how far from 0 a coordinate may lie
+pub record Limits : Type 0 where
+  pub n : ℕ
+  pub d : ℕ
+  pub coord : ℕ
+
+-- "n from 1 to 512. d from 1 to 4096." Planes and end coordinates from -16384 to 16384.
+abbrev pub bench : Limits
+bench = record { n = 512; d = 4096; coord = 16384 }
+
+abbrev pub inside : Limits → ℤ → Bool
+inside m c = leZ (negℤ (pos (m .coord))) c && leZ c (pos (m .coord))
+
+-- a row of the table: its code, and whether it applies
+pub record Row : Type 0 where
+  pub code : ℕ
+  pub applies : Bool
+
+abbrev pub row : ℕ → Bool → Row
+row c t = record { code = c; applies = t }
+
+-- "Codes are checked in rising order": the code of the first row that applies, 0 (accepted) where none does
+abbrev pub first : List Row → ℕ
+first [] = 0
+first (r ∷ rs) = cond (r .applies) (r .code) (first rs)
+
+abbrev pub planesOut : Limits → Axis → Bool
+planesOut m a = not (inside m (a .b)) || not (inside m (planes a .at (a .n)))
+
+-- 1: "some n is 0 or over 512"; 2: "some d is 0 or over 4096"; 3: "a first or far plane is outside its bounds"
+abbrev pub axisRows : Limits → ((Axis → Bool) → Bool) → List Row
+axisRows m some =
+    row 1 (some (λ a. eqb (a .n) 0 || ltb (m .n) (a .n))) ∷ row 2 (some (λ a. eqb (a .d) 0 || ltb (m .d) (a .d))) ∷ row 3 (some (planesOut m)) ∷ []
+
+abbrev pub axisCode : Limits → Axis → ℕ
+axisCode m a = first (axisRows m (λ refuses. refuses a))
+
+abbrev pub checkedAxis : Limits → Axis → Checked
+checkedAxis m a = cond (eqb (axisCode m a) 0) (Fine a) (Refused (axisCode m a))

@@ -1,0 +1,95 @@
+// One axis of the density volume: its numbers, its limits, and the check of both.
+ghost use mathlib.Core.Path.{_≡_};
+ghost use mathlib.Core.Bool.{_||_};
+ghost use lib.Dec.{eqb, ltb};
+ghost use lib.IntN.{pos, _+ℤ_};
+ghost use Rattle.axis.specs.Leg.{natural};
+ghost use Rattle.axis.specs.Codes.{bench, inside, planesOut, axisCode, checkedAxis};
+
+// n voxels of spacing d from the first plane b on, in units of 0.1 mm. The fields say nothing of the
+// limits: whoever takes an axis checks it.
+pub struct Axis {
+    pub n: u32,
+    pub d: u32,
+    pub b: i32,
+}
+
+// What the checked constructor answers: the axis, or the code that refuses it.
+pub enum Checked {
+    Fine(Axis),
+    Refused(u32),
+}
+
+// c + by, and 0 where that is below 0: a coordinate told from the lower limit up, so that what
+// follows is whole numbers without a sign.
+pub fn raised(c: i32, by: u32) -> u64
+    ensures { λ r. ⌜ r ≡ natural (c +ℤ pos by) ⌝ }
+{
+    let sum = (c as i64) + (by as i64);
+    if sum < 0 { 0 } else { sum as u64 }
+}
+
+// Whether a count or a spacing is 0 or over the most that is taken.
+fn beyond(x: u32, most: u32) -> bool
+    ensures { λ r. ⌜ r ≡ (eqb x 0 || ltb most x) ⌝ }
+{
+    if x == 0 { true } else { most < x }
+}
+
+impl Axis {
+    pub const N_MAX: u32 = 512;
+
+    pub const D_MAX: u32 = 4096;
+
+    pub const COORD_MAX: u32 = 16384;
+
+    // Whether a coordinate is within the limits, both ends included.
+    pub fn holds(c: i32) -> bool
+        ensures { λ r. ⌜ r ≡ inside bench c ⌝ }
+    {
+        let top = Axis::COORD_MAX as i32;
+        -top <= c && c <= top
+    }
+
+    // Whether the first or the far plane is outside its bounds.
+    fn planes_out(self) -> bool
+        ensures { λ r. ⌜ r ≡ planesOut bench self ⌝ }
+    {
+        let b = self.b;
+        if Axis::holds(b) {
+            let far = raised(b, Axis::COORD_MAX) + (self.n as u64) * (self.d as u64);
+            let top = 2 * (Axis::COORD_MAX as u64);
+            top < far
+        } else {
+            true
+        }
+    }
+
+    // The code that refuses the axis by itself, 0 where it is accepted.
+    pub fn code(self) -> u32
+        ensures { λ r. ⌜ r ≡ axisCode bench self ⌝ }
+    {
+        if beyond(self.n, Axis::N_MAX) {
+            return 1;
+        }
+        if beyond(self.d, Axis::D_MAX) {
+            return 2;
+        }
+        if self.planes_out() {
+            return 3;
+        }
+        0
+    }
+
+    pub fn checked(n: u32, d: u32, b: i32) -> Checked
+        ensures { λ r. ⌜ r ≡ checkedAxis bench (record { n = n; d = d; b = b }) ⌝ }
+    {
+        let a = Axis { n, d, b };
+        let code = a.code();
+        if code == 0 {
+            Checked::Fine(a)
+        } else {
+            Checked::Refused(code)
+        }
+    }
+}

@@ -1,0 +1,3 @@
+-- Laws of the ray through the volume, for the crates above.
+pub mod Rows
+pub mod Bench

@@ -1,0 +1,27 @@
+use mathlib.Core.Path.{sym, _∙_}
+use borrow.Author.Needs.{needs}
+use Rattle.ray.proofs.check.ends_code.Statement.{statement}
+use Rattle.ray.proofs.check.ends_code.Tie as tie
+use Rattle.ray.proofs.check.ends_code.Reads as reads
+use Rattle.ray.proofs.check.ends_code.Lts as lts
+use Rattle.ray.proofs.check.ends_differ.Reads as ends-differ-reads
+use Rattle.ray.proofs.check.ends_out.Reads as ends-out-reads
+
+ends-out-requires : tie.Need-ends-out-requires
+ends-out-requires c κs = search needs
+
+returns : tie.Need-returns
+returns c = rw (sym (c .before .ends-out .ensures) ∙ c .if1 .taken)
+
+ends-differ-requires : tie.Need-ends-differ-requires
+ends-differ-requires c κs = search needs
+
+returns-2 : tie.Need-returns-2
+returns-2 c = rw (sym (c .before .before .before .ends-out .ensures) ∙ c .before .before .if1 .left, sym (c .before .ends-differ .ensures) ∙ c .if2 .taken)
+
+returns-3 : tie.Need-returns-3
+returns-3 c = rw (sym (c .before .before .before .ends-out .ensures) ∙ c .before .before .if1 .left, sym (c .before .ends-differ .ensures) ∙ c .if2 .left)
+
+pub ends-code-spec : {M : Type 1} → statement M
+ends-code-spec =
+    tie.close (tie.spec ends-out-requires returns ends-differ-requires returns-2 returns-3)

@@ -1,0 +1,110 @@
+-- Document 01, "Geometry as whole numbers" and "What a trace hands back". Nothing here walks. Definitions only. Assumes nothing.
+use Prim.Native.Nat.{ℕ, zero, suc, _+_, _-_, _*_, _/_, _%_, min, max}
+use mathlib.Core.Bool.{Bool, _&&_, _||_, not, cond}
+use mathlib.Core.List.{List, [], _∷_}
+use lib.IntN.{natAbs, _-ℤ_}
+use lib.Dec.{leb, ltb}
+use lib.ListN.{getD}
+use Rattle.axis.specs.Leg.{Planes, planes, Leg, moving, factor, run, Slab, held, enters, leaves}
+use Rattle.ray.specs.declared.Grid.{Grid}
+use Rattle.ray.specs.declared.Ray.{Ray}
+
+pub data Side : Type 0 where
+  X : Side
+  Y : Side
+  Z : Side
+
+abbrev pub leg : Ray → Side → Leg
+leg r X = record { p = r .p .x; q = r .q .x }
+leg r Y = record { p = r .p .y; q = r .q .y }
+leg r Z = record { p = r .p .z; q = r .q .z }
+
+-- "D is the product of the absolute differences of the moving axes"; then what is left of it without one axis
+abbrev pub dOf : Ray → ℕ
+dOf r = factor (leg r X) * (factor (leg r Y) * factor (leg r Z))
+
+abbrev pub rest : Ray → Side → ℕ
+rest r X = factor (leg r Y) * factor (leg r Z)
+rest r Y = factor (leg r X) * factor (leg r Z)
+rest r Z = factor (leg r X) * factor (leg r Y)
+
+-- the squared length (000, equation 11)
+abbrev pub squaredOf : Ray → ℕ
+squaredOf r = let d : Side → ℕ = λ s. natAbs (leg r s .q -ℤ leg r s .p) in d X * d X + d Y * d Y + d Z * d Z
+
+abbrev pub Volume : Type 0
+Volume = Side → Planes
+
+abbrev pub volume : Grid → Volume
+volume g X = planes (g .x)
+volume g Y = planes (g .y)
+volume g Z = planes (g .z)
+
+abbrev pub count : Volume → ℕ
+count v = v X .n * v Y .n * v Z .n
+
+-- a box lies between two planes of each axis: the whole array; a voxel
+abbrev pub array : Volume → Side → Slab
+array v s = record { lo = v s .at 0; hi = v s .at (v s .n) }
+
+-- "Voxel (i, j, k) counts from 0 and has number i + nx·(j + ny·k)."
+abbrev pub place : Volume → ℕ → Side → ℕ
+place v m X = m % v X .n
+place v m Y = m / v X .n % v Y .n
+place v m Z = m / v X .n / v Y .n
+
+abbrev pub voxel : Volume → ℕ → Side → Slab
+voxel v m s = record { lo = v s .at (place v m s); hi = v s .at (place v m s + 1) }
+
+-- The length in a box, times D: "if a still coordinate is not held by the voxel on that axis, zero. Otherwise the least of 1
+-- and the greater plane α of each moving axis, minus the greatest of 0 and the lesser plane α of each moving axis, or zero if
+-- that is negative." For the array's box start and stop are αmin and αmax (000, equation 5).
+abbrev pub holds : Ray → (Side → Slab) → Bool
+holds r b = held (leg r X) (b X) && (held (leg r Y) (b Y) && held (leg r Z) (b Z))
+
+abbrev pub start : Ray → (Side → Slab) → ℕ
+start r b = let e : Side → ℕ = λ s. enters (rest r s) (leg r s) (b s) in max (e X) (max (e Y) (e Z))
+
+abbrev pub stop : Ray → (Side → Slab) → ℕ
+stop r b = let l : Side → ℕ = λ s. leaves (rest r s) (leg r s) (b s) in min (dOf r) (min (l X) (min (l Y) (l Z)))
+
+-- "Its part is this times D."
+unfoldable pub partOf : Volume → Ray → ℕ → ℕ
+partOf v r m = cond (holds r (voxel v m)) (stop r (voxel v m) - start r (voxel v m)) 0
+
+-- "The ray misses when αmax ≤ αmin or a still coordinate lies outside b ≤ c < b + n·d."
+unfoldable pub misses : Volume → Ray → Bool
+misses v r = leb (stop r (array v)) (start r (array v)) || not (holds r (array v))
+
+-- "Span is (αmax - αmin)·D on a hit, else 0."
+unfoldable pub spanOf : Volume → Ray → ℕ
+spanOf v r = cond (misses v r) 0 (stop r (array v) - start r (array v))
+
+-- of the voxels below n those with a length above zero, each ahead of the first that starts later: ray order
+unfoldable pub insert : (ℕ → ℕ) → ℕ → List ℕ → List ℕ
+insert starts m [] = m ∷ []
+insert starts m (w ∷ ws) = cond (ltb (starts m) (starts w)) (m ∷ w ∷ ws) (w ∷ insert starts m ws)
+
+unfoldable pub listTo : Volume → Ray → ℕ → List ℕ
+listTo v r zero = []
+listTo v r (suc m) = cond (ltb 0 (partOf v r m)) (insert (λ w. start r (voxel v w)) m (listTo v r m)) (listTo v r m)
+
+unfoldable pub listOf : Volume → Ray → List ℕ
+listOf v r = listTo v r (count v)
+
+unfoldable pub total : (ℕ → ℕ) → ℕ → ℕ
+total f zero = 0
+total f (suc m) = total f m + f m
+
+-- "The weighted sum is the sum of part·density", over all voxels as in equation (1) of 000
+unfoldable pub sumOf : Volume → Ray → List ℕ → ℕ
+sumOf v r densities = total (λ m. partOf v r m * getD densities m 0) (count v)
+
+-- "the number of pairs of a moving axis and one of its planes with α strictly between αmin and αmax, 0 on a miss"
+unfoldable pub crosses : Volume → Ray → Side → ℕ → Bool
+crosses v r s i =
+    let α : ℕ = run (leg r s) (v s .at i) * rest r s in
+    moving (leg r s) && (ltb (start r (array v)) α && ltb α (stop r (array v)))
+
+unfoldable pub crossedOf : Volume → Ray → ℕ
+crossedOf v r = let on : Side → ℕ = λ s. total (λ i. cond (crosses v r s i) 1 0) (v s .n + 1) in cond (misses v r) 0 (on X + on Y + on Z)

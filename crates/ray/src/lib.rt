@@ -1,0 +1,23 @@
+// The density volume's grid, the ray through it, and the checks of both.
+pub mod check;
+
+use axis::Axis;
+
+pub struct Grid {
+    pub x: Axis,
+    pub y: Axis,
+    pub z: Axis,
+}
+
+// An end of a ray, in units of 0.1 mm.
+pub struct End {
+    pub x: i32,
+    pub y: i32,
+    pub z: i32,
+}
+
+// From p to q.
+pub struct Ray {
+    pub p: End,
+    pub q: End,
+}
