@@ -1,3 +1,4 @@
 -- Laws of the ray through the volume, for the crates above.
 pub mod Rows
 pub mod Bench
+pub mod Rising
