@@ -2,3 +2,4 @@
 pub mod Rows
 pub mod Bench
 pub mod Rising
+pub mod Listing
