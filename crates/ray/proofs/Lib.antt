@@ -3,3 +3,4 @@ pub mod Rows
 pub mod Bench
 pub mod Rising
 pub mod Listing
+pub mod MovedAxis
