@@ -4,3 +4,4 @@ pub mod Bench
 pub mod Rising
 pub mod Listing
 pub mod MovedAxis
+pub mod Moved
