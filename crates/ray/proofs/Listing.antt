@@ -12,6 +12,7 @@ use borrow.Author.Tests.{lt-ltb, le-ltb}
 use Rattle.ray.specs.declared.Ray.{Ray}
 use Rattle.ray.specs.Length.{Volume, count, voxel, start, partOf, insert, listTo, listOf}
 use Rattle.ray.proofs.Rising.{Rising, same-rising, rising-snoc}
+use Rattle.ray.proofs.Insert.{either, insert-new, insert-old, insert-cases, insert-rising}
 
 pub record Listed (starts part : ℕ → ℕ) (count : ℕ) (vs : List ℕ) : Type 0 where
   pub sound : (m : ℕ) → List·Memᴰ m vs → (m < count) × (0 < part m)
@@ -66,80 +67,53 @@ module _ (starts part : ℕ → ℕ) (count : ℕ) where
 pub map-snoc : (f : ℕ → ℕ) (vs : List ℕ) (v : ℕ) → map f (vs ++ (v ∷ [])) ≡ map f vs ++ (f v ∷ [])
 map-snoc f vs v = rw map-append refl
 
--- `insert` adds its member and keeps the order
-module _ (f : ℕ → ℕ) (m : ℕ) where
-  either : (b : Bool) (xs ys : List ℕ) (P : List ℕ → Type 0) → P xs → P ys → P (cond b xs ys)
-  either true xs ys P p q = p
-  either false xs ys P p q = q
-
-  insert-new : (ws : List ℕ) → List·Memᴰ m (insert f m ws)
-  unfolding insert
-  insert-new [] = List·Memᴰ·head refl
-  insert-new (w ∷ ws) = either (ltb (f m) (f w)) _ _ (List·Memᴰ m) (List·Memᴰ·head refl) (List·Memᴰ·tail (insert-new ws))
-
-  insert-old : (ws : List ℕ) (x : ℕ) → List·Memᴰ x ws → List·Memᴰ x (insert f m ws)
-  unfolding insert
-  insert-old [] x h = absurd (List·Memᴰ·not-nil h)
-  insert-old (w ∷ ws) x h =
-      either (ltb (f m) (f w)) _ _ (List·Memᴰ x) (List·Memᴰ·tail h)
-      (⊎-elim (λ e. List·Memᴰ·head e) (λ k. List·Memᴰ·tail (insert-old ws x k)) (List·Memᴰ·cases-cons h))
-
-  insert-cases : (ws : List ℕ) (x : ℕ) → List·Memᴰ x (insert f m ws) → (x ≡ m) ⊎ List·Memᴰ x ws
-  unfolding insert
-  insert-cases [] x h = List·Memᴰ·cases-cons h
-  insert-cases (w ∷ ws) x h =
-      either (ltb (f m) (f w)) _ _ (λ (l : List ℕ). List·Memᴰ x l → (x ≡ m) ⊎ List·Memᴰ x (w ∷ ws)) (λ k. List·Memᴰ·cases-cons k)
-      (λ k. ⊎-elim (λ e. inr (List·Memᴰ·head e)) (λ k′. ⊎-elim (λ e. inl e) (λ k″. inr (List·Memᴰ·tail k″)) (insert-cases ws x k′)) (List·Memᴰ·cases-cons k)) h
-
-  insert-rising : (ws : List ℕ) → ((w : ℕ) → List·Memᴰ w ws → f m ≡ f w → ⊥) → Rising f ws → Rising f (insert f m ws)
-  unfolding insert
-  insert-rising [] other r = ((λ y h. absurd (List·Memᴰ·not-nil h)), tt)
-  insert-rising (w ∷ ws) other r = elim (decLt (f m) (f w)) [
-    | yes h ↦ rw (lt-ltb (f m) (f w) h) ((λ y k. ⊎-elim (λ e. omega (arith, ap f e)) (λ k′. omega (arith, r .0 y k′)) (List·Memᴰ·cases-cons k)), r)
-    | no h ↦ rw (le-ltb (f m) (f w) (omega arith)) (
-      (λ y k. ⊎-elim (λ e. let n = other w (List·Memᴰ·head refl) in omega (arith, ap f e)) (λ k′. r .0 y k′) (insert-cases ws y k)),
-      insert-rising ws (λ y k. other y (List·Memᴰ·tail k)) (r .1),
-    )
-  ]
-
--- one voxel number further
-module _ (starts part : ℕ → ℕ) (m : ℕ) (ws : List ℕ) (l : Listed starts part m ws) where
-  passed : part m ≤ 0 → Listed starts part (suc m) ws
-  passed none = record {
-    sound = λ w h. (omega (arith, l .sound w h .0), l .sound w h .1);
-    whole = λ w i p. elim (decLt w m) [ yes h ↦ l .whole w h p | no h ↦ let e : w ≡ m = omega arith in absurd (omega (arith, ap part e)) ];
-    rising = l .rising;
-  }
-
-  taken : 0 < part m → Apart starts part (suc m) → Listed starts part (suc m) (insert starts m ws)
-  taken some apart = record {
-    sound = λ w h. ⊎-elim (λ e. (omega arith, omega (arith, ap part e))) (λ k. (omega (arith, l .sound w k .0), l .sound w k .1)) (insert-cases starts m ws w h);
-    whole = λ w i p. elim (decLt w m) [
-      | yes h ↦ insert-old starts m ws w (l .whole w h p)
-      | no h ↦ subst (λ (x : ℕ). List·Memᴰ x (insert starts m ws)) (omega arith) (insert-new starts m ws)
-    ];
-    rising = insert-rising starts m ws
-        (λ w h e. let s = l .sound w h in let same : m ≡ w = apart m w (omega arith) (omega arith) some (s .1) e in omega arith) (l .rising);
-  }
-
 module _ (v : Volume) (r : Ray) where
   abbrev pub starts : ℕ → ℕ
   starts m = start r (voxel v m)
 
-  pub list-to : (n : ℕ) → Apart starts (partOf v r) n → Listed starts (partOf v r) n (listTo v r n)
+  list-to-sound : (n m : ℕ) → List·Memᴰ m (listTo v r n) → (m < n) × (0 < partOf v r m)
   unfolding listTo
-  list-to zero apart = record { sound = λ m h. absurd (List·Memᴰ·not-nil h); whole = λ m i p. absurd (omega arith); rising = tt }
-  list-to (suc n) apart =
-      let l : Listed starts (partOf v r) n (listTo v r n) = list-to n (λ m w i j. apart m w (omega arith) (omega arith)) in
+  list-to-sound zero m h = absurd (List·Memᴰ·not-nil h)
+  list-to-sound (suc n) m h =
+      let below : List·Memᴰ m (listTo v r n) → (m < suc n) × (0 < partOf v r m) = λ k. let s = list-to-sound n m k in (omega arith, s .1) in
       elim (decLt 0 (partOf v r n)) [
-        | yes h ↦ rw (lt-ltb 0 (partOf v r n) h) (taken starts (partOf v r) n (listTo v r n) l h apart)
-        | no h ↦ rw (le-ltb 0 (partOf v r n) (omega arith)) (passed starts (partOf v r) n (listTo v r n) l (omega arith))
+        | yes p ↦ ⊎-elim (λ e. (omega arith, omega (arith, ap (partOf v r) e))) below (insert-cases starts n (listTo v r n) m (rw (lt-ltb 0 (partOf v r n) p) at h))
+        | no p ↦ below (rw (le-ltb 0 (partOf v r n) (omega arith)) at h)
       ]
+
+  list-to-whole : (n m : ℕ) → m < n → 0 < partOf v r m → List·Memᴰ m (listTo v r n)
+  unfolding listTo
+  list-to-whole zero m i p = absurd (omega arith)
+  list-to-whole (suc n) m i p = elim (decLt m n) [
+    | yes h ↦ either (ltb 0 (partOf v r n)) _ _ (List·Memᴰ m) (insert-old starts n (listTo v r n) m (list-to-whole n m h p)) (list-to-whole n m h p)
+    | no h ↦ let e : n ≡ m = omega arith in
+        rw (lt-ltb 0 (partOf v r n) (omega (arith, ap (partOf v r) e))) (subst (λ (x : ℕ). List·Memᴰ x (insert starts n (listTo v r n))) e (insert-new starts n (listTo v r n)))
+  ]
+
+  list-to-rising : (n : ℕ) → Apart starts (partOf v r) n → Rising starts (listTo v r n)
+  unfolding listTo
+  list-to-rising zero apart = tt
+  list-to-rising (suc n) apart =
+      let l : Rising starts (listTo v r n) = list-to-rising n (λ m w i j. apart m w (omega arith) (omega arith)) in
+      elim (decLt 0 (partOf v r n)) [
+        | yes p ↦ rw (lt-ltb 0 (partOf v r n) p) (insert-rising starts n (listTo v r n)
+            (λ w h e. let s = list-to-sound n w h in let same : n ≡ w = apart n w (omega arith) (omega arith) p (s .1) e in omega arith) l)
+        | no p ↦ rw (le-ltb 0 (partOf v r n) (omega arith)) l
+      ]
+
+  -- members have a part, and whatever has one is a member, also where two start at once
+  pub list-sound : (m : ℕ) → List·Memᴰ m (listOf v r) → (m < count v) × (0 < partOf v r m)
+  unfolding listOf
+  list-sound = list-to-sound (count v)
+
+  pub list-whole : (m : ℕ) → m < count v → 0 < partOf v r m → List·Memᴰ m (listOf v r)
+  unfolding listOf
+  list-whole = list-to-whole (count v)
 
   module _ (apart : Apart starts (partOf v r) (count v)) where
     pub list-listed : Listed starts (partOf v r) (count v) (listOf v r)
     unfolding listOf
-    list-listed = list-to (count v) apart
+    list-listed = record { sound = list-sound; whole = list-whole; rising = list-to-rising (count v) apart }
 
     pub list-is : (vs : List ℕ) → Listed starts (partOf v r) (count v) vs → vs ≡ listOf v r
     list-is vs l = only-list starts (partOf v r) (count v) vs (listOf v r) l list-listed
