@@ -7,3 +7,4 @@ pub mod Insert
 pub mod Listing
 pub mod MovedAxis
 pub mod Moved
+pub mod Weighted

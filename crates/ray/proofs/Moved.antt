@@ -1,12 +1,12 @@
 -- Volume and ray moved by a whole number k: what a trace hands back is the same. No bound on any number. Assumes nothing.
 use Prim.Native.Nat.{ℕ, zero, suc, _+_, _-_, _*_, _/_, _%_, min, max}
 use mathlib.Core.Path.{_≡_, refl, ap, _∙_}
-use mathlib.Core.Bool.{Bool, _&&_, _||_, not, cond}
+use mathlib.Core.Bool.{_&&_, _||_, not, cond}
 use mathlib.Core.List.{List}
 use lib.IntN.{ℤ, natAbs, _+ℤ_, _-ℤ_}
 use lib.Dec.{leb, ltb}
 use lib.ListN.{getD}
-use Rattle.axis.specs.Leg.{Leg, Slab, moving, factor, run, held, enters, leaves}
+use Rattle.axis.specs.Leg.{Slab, moving, factor, run, held, enters, leaves}
 use Rattle.ray.specs.declared.Ray.{Ray}
 use Rattle.ray.specs.Length.{Side, X, Y, Z, leg, dOf, rest, squaredOf, Volume, count, array, place, voxel, holds, start, stop, partOf, misses, spanOf, insert, listTo, listOf, total, sumOf, crosses, crossedOf}
 use Rattle.ray.proofs.MovedAxis.{legOn, slabOn, diff-on, moving-on, factor-on, run-on, held-on, enters-on, leaves-on}
