@@ -2,3 +2,10 @@
 pub mod Rows
 pub mod Once
 pub mod Bench
+pub mod Total
+pub mod Rising
+pub mod Insert
+pub mod Listing
+pub mod MovedAxis
+pub mod Moved
+pub mod Weighted
