@@ -1,3 +1,4 @@
 -- Laws of the walk.
 pub mod Units
-pub mod Turn
+pub mod StepIs
+pub mod Turns

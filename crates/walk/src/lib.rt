@@ -1,3 +1,4 @@
 // The exact walk: from a scene in whole numbers without a sign to the voxels that the ray meets, in order, and the parts.
+pub mod entries;
 pub mod line;
 pub mod steps;
