@@ -2,3 +2,10 @@
 pub mod Units
 pub mod StepIs
 pub mod Turns
+pub mod Three
+pub mod Stretch
+pub mod Numbers
+pub mod Scenes
+pub mod Hops
+pub mod Walking
+pub mod Found

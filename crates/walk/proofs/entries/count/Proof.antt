@@ -20,19 +20,19 @@ loop-holds : tie.Need-loop-holds Inv-loop μ-loop
 loop-holds c = none-counted (c .args .s) (c .args .to) (c .args .begin) (c .pre)
 
 step-requires : tie.Need-step-requires Inv-loop μ-loop
-step-requires c κs = 
+step-requires c κs =
     let a = c .before .args in
     let l = c .loop in
     step-fits (a .s) (a .to) (l .w) (l .inv .forward)
 
 add-r : tie.Need-add-r Inv-loop μ-loop
-add-r c = 
+add-r c =
     let a = c .before .before .args in
     let l = c .before .loop in
     record { fits = omega (arith, counted-below (a .s) (a .to) (entries (a .s) (a .to) (a .begin)) (l .w) (l .r) (l .inv), l .inv .few) }
 
 returns : tie.Need-returns Inv-loop μ-loop
-returns c = 
+returns c =
     let a = c .before .before .before .before .args in
     let l = c .before .before .before .loop in
     let n = c .before .before .step .result in
@@ -41,7 +41,7 @@ returns c =
     last-counted (a .s) (a .to) (entries (a .s) (a .to) (a .begin)) (l .w) (l .r) (l .inv) (omega (arith, u, c .if1 .taken))
 
 loop-less : tie.Need-loop-less Inv-loop μ-loop
-loop-less c = 
+loop-less c =
     let a = c .before .before .before .before .args in
     let l = c .before .before .before .loop in
     let n = c .before .before .step .result in
@@ -50,7 +50,7 @@ loop-less c =
     omega (arith, u, l .inv .forward .later, l .inv .forward .before)
 
 loop-again : tie.Need-loop-again Inv-loop μ-loop
-loop-again c = 
+loop-again c =
     let a = c .before .before .before .before .args in
     let l = c .before .before .before .loop in
     let n = c .before .before .step .result in
