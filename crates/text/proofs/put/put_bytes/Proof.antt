@@ -1,0 +1,68 @@
+use Prim.Native.Nat.{ℕ, suc, _+_, _*_, _-_, _≤_, _<_}
+use mathlib.Core.Path.{_≡_, refl, sym, ap, _∙_}
+use mathlib.Core.List.{_++_}
+use native.Mathlib.Omega.{arith}
+use borrow.Author.Needs.{needs}
+use lib.ListN.{length, take, drop, getD, length-set}
+use Rattle.text.specs.Puts.{put-none, put-more, put-all}
+use Rattle.text.proofs.put.put_bytes.Statement.{statement}
+use Rattle.text.proofs.put.put_bytes.Tie as tie
+
+abbrev Inv-loop : tie.InvT-loop
+Inv-loop out₀ at src i₀ out i = (i ≤ length src) × (length out ≡ length out₀) × (take (at + i) out ≡ take at out₀ ++ take i src)
+
+abbrev μ-loop : tie.MeasureT-loop
+μ-loop out₀ at src i₀ out i = length src - i
+
+loop-holds : tie.Need-loop-holds Inv-loop μ-loop
+loop-holds c = (omega arith, refl, put-none (c .args .out .now) (c .args .src .now) (c .args .at))
+
+shared-slice-read-out : tie.Need-shared-slice-read-out Inv-loop μ-loop
+shared-slice-read-out c = omega arith
+
+add-out : tie.Need-add-out Inv-loop μ-loop
+add-out c = omega arith
+
+slice-write-out : tie.Need-slice-write-out Inv-loop μ-loop
+slice-write-out c = omega arith
+
+add-i : tie.Need-add-i Inv-loop μ-loop
+add-i c = omega arith
+
+loop-less : tie.Need-loop-less Inv-loop μ-loop
+loop-less c = omega arith
+
+loop-again : tie.Need-loop-again Inv-loop μ-loop
+loop-again c =
+    let l = c .before .before in
+    let a = l .before .args in
+    (omega arith, simp length-set (omega arith), put-more (l .loop .out) (a .out .now) (a .src .now) (a .at) (l .loop .i) (omega arith) (omega arith) (l .loop .inv .2))
+
+add-result : tie.Need-add-result Inv-loop μ-loop
+add-result c = omega arith
+
+same-length : tie.Need-same-length Inv-loop μ-loop
+same-length c = c .before .loop .inv .1
+
+returns : tie.Need-returns Inv-loop μ-loop
+returns c =
+    let l = c .before in
+    let a = l .before .args in
+    (omega arith, put-all (l .loop .out) (a .out .now) (a .src .now) (a .at) (l .loop .i) (omega arith) (l .loop .inv .2))
+
+pub put-bytes-spec : {M : Type 1} → statement M
+put-bytes-spec =
+    tie.close
+    (tie.spec
+    Inv-loop
+    μ-loop
+    loop-holds
+    shared-slice-read-out
+    add-out
+    slice-write-out
+    add-i
+    loop-less
+    loop-again
+    add-result
+    same-length
+    returns)

@@ -1,0 +1,26 @@
+use Rattle.text.specs.Lines.{line-law}
+use borrow.Author.Needs.{needs}
+use Rattle.text.proofs.put.put_line.Statement.{statement}
+use Rattle.text.proofs.put.put_line.Tie as tie
+
+put-bytes-requires : tie.Need-put-bytes-requires
+put-bytes-requires c κs = search needs
+
+put-numbers-requires : tie.Need-put-numbers-requires
+put-numbers-requires c κs = search needs
+
+put-byte-requires : tie.Need-put-byte-requires
+put-byte-requires c κs = search needs
+
+same-length : tie.Need-same-length
+same-length c = search needs
+
+returns : tie.Need-returns
+returns c =
+    let a = c .before .before .before .before .before .before .before .before .before .before .before .before .before .before .before .args in
+    (search needs, line-law (a .word .now) (a .xs .now) (c .before .before .before .before .before .before .before .before .before .before .put-bytes .ensures .1) (c .before .before .before .before .before .before .put-numbers .ensures .1) (c .before .before .put-byte .ensures .1))
+
+pub put-line-spec : {M : Type 1} → statement M
+put-line-spec =
+    tie.close
+    (tie.spec put-bytes-requires put-numbers-requires put-byte-requires same-length returns)
