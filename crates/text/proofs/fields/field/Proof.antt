@@ -34,14 +34,20 @@ loop-less c = omega arith
 loop-again : tie.Need-loop-again Inv-loop μ-loop
 loop-again c =
     let l = c .before .before .before in
-    (omega arith, omega arith, walk-on 9 (l .before .before .args .line .now) (l .loop .j) (l .loop .at) (c .before .field-end .result) (l .loop .inv .2) (c .before .field-end .ensures .0) (c .if1 .taken))
+    (omega arith, omega arith, walk-on 9 (l .before .before .args .line .now) (l .loop .j) (l .loop .at) (c .before .field-end .result) (l .loop .inv .2) (c .before .field-end .ensures) (c .if1 .taken))
 
 returns : tie.Need-returns Inv-loop μ-loop
 returns c =
     let l = c .before .before .before in
     let s = l .before .before .args .line .now in
-    let short : length (split 9 s) ≤ l .loop .j + 1 = walk-end 9 s (l .loop .j) (l .loop .at) (c .before .field-end .result) (l .loop .inv .2) (c .before .field-end .ensures .0) (c .if1 .left) in
-    absurd (omega arith)
+    let k = l .before .before .args .k in
+    let within = end-within 9 s (l .loop .at) (l .loop .inv .0) in
+    let w = l .loop .inv .2 in
+    let ends = c .before .field-end .ensures in (
+      omega (arith, within, ends),
+      (past-here 9 s (l .loop .j) (l .loop .at) (c .before .field-end .result) w ends (c .if1 .left) k (omega arith),
+      past-rest 9 s (l .loop .j) (l .loop .at) (c .before .field-end .result) w ends (c .if1 .left) k (omega arith)),
+    )
 
 field-end-requires-2 : tie.Need-field-end-requires-2 Inv-loop μ-loop
 field-end-requires-2 c κs = search needs
@@ -52,7 +58,13 @@ returns-2 c =
     let s = l .before .before .args .line .now in
     let k = l .before .before .args .k in
     let j : l .loop .j ≡ k = omega arith in
-    (omega arith, walk-here 9 s (l .loop .j) (l .loop .at) (c .field-end2 .result) (l .loop .inv .2) (c .field-end2 .ensures .0) ∙ ap (λ (n : ℕ). getD (split 9 s) n []) j)
+    let within = end-within 9 s (l .loop .at) (l .loop .inv .0) in
+    let w = l .loop .inv .2 in
+    let ends = c .field-end2 .ensures in (
+      omega (arith, within, ends),
+      (walk-here 9 s (l .loop .j) (l .loop .at) (c .field-end2 .result) w ends ∙ ap (λ (n : ℕ). getD (split 9 s) n []) j,
+      walk-rest 9 s (l .loop .j) (l .loop .at) (c .field-end2 .result) w ends ∙ ap (λ (n : ℕ). drop (n + 1) (split 9 s)) j),
+    )
 
 pub field-spec : {M : Type 1} → statement M
 field-spec =

@@ -1,11 +1,12 @@
 use mathlib.Core.List.{List, [], _∷_, _++_}
-use Rattle.text.specs.Puts.{chain}
+use Rattle.text.proofs.Written.{then}
 use borrow.Author.Needs.{needs}
 use native.Mathlib.Omega.{arith}
 use Prim.Native.Nat.{_+_, _-_, _≤_, _/_, _%_}
 use mathlib.Core.Path.{_≡_, refl, sym, ap, _∙_}
 use lib.ListN.{length, take}
-use Rattle.text.specs.Decimal.{decimal, decimal-one, decimal-many, length-one, length-many}
+use Rattle.text.specs.Decimal.{decimal}
+use Rattle.text.proofs.Decimal.{decimal-one, decimal-many, length-one, length-many}
 use Prim.Native.Nat.{ℕ, _<_}
 use borrow.Fn.Kinds.{In}
 use borrow.Fn.PlainCycle.{Measures, is, falls, and}
@@ -119,7 +120,7 @@ put-decimal-returns-2 : (t : ℕ) → put-decimal-lts.Need-returns-2 (
 put-decimal-returns-2 t c =
     let a = c .before .before .before .before .before .before .before .before .before .before .args in
     let many : 10 ≤ a .x = omega arith in
-    (omega (arith, length-many (a .x) many), chain (take (a .at) (a .out .now)) (decimal (a .x / 10)) ((48 + a .x % 10) ∷ []) (c .before .before .before .before .before .before .put-decimal .ensures .1) (c .before .before .put-byte2 .ensures .1) ∙ ap (λ (l : List ℕ). take (a .at) (a .out .now) ++ l) (sym (decimal-many (a .x) many)))
+    (omega (arith, length-many (a .x) many), then (take (a .at) (a .out .now)) (decimal (a .x / 10)) ((48 + a .x % 10) ∷ []) (c .before .before .before .before .before .before .put-decimal .ensures .1) (c .before .before .put-byte2 .ensures .1) ∙ ap (λ (l : List ℕ). take (a .at) (a .out .now) ++ l) (sym (decimal-many (a .x) many)))
 
 pub +put-decimal-spec : {M : Type 1} → statement M
 +put-decimal-spec = close μ-put-decimal λ t. put-decimal-lts.spec (

@@ -1,4 +1,4 @@
-use Rattle.text.specs.Puts.{put-one}
+use Rattle.text.proofs.Written.{one-put}
 use borrow.Author.Needs.{needs}
 use Rattle.text.proofs.put.put_byte.Statement.{statement}
 use Rattle.text.proofs.put.put_byte.Tie as tie
@@ -13,7 +13,7 @@ same-length : tie.Need-same-length
 same-length c = search needs
 
 returns : tie.Need-returns
-returns c = (search needs, put-one (c .args .out .now) (c .args .at) (c .args .b) (c .pre))
+returns c = (search needs, one-put (c .args .out .now) (c .args .at) (c .args .b) (c .pre))
 
 pub put-byte-spec : {M : Type 1} → statement M
 put-byte-spec = tie.close (tie.spec slice-write-out add-result same-length returns)

@@ -4,18 +4,18 @@ use mathlib.Core.List.{_++_}
 use native.Mathlib.Omega.{arith}
 use borrow.Author.Needs.{needs}
 use lib.ListN.{length, take, drop, getD, length-set}
-use Rattle.text.specs.Puts.{put-none, put-more, put-all}
+use Rattle.text.proofs.Written.{copy-begins, copy-on, copy-ends}
 use Rattle.text.proofs.put.put_bytes.Statement.{statement}
 use Rattle.text.proofs.put.put_bytes.Tie as tie
 
 abbrev Inv-loop : tie.InvT-loop
-Inv-loop out₀ at src i₀ out i = (i ≤ length src) × (length out ≡ length out₀) × (take (at + i) out ≡ take at out₀ ++ take i src)
+Inv-loop out₀ at bytes i₀ out i = (i ≤ length bytes) × (length out ≡ length out₀) × (take (at + i) out ≡ take at out₀ ++ take i bytes)
 
 abbrev μ-loop : tie.MeasureT-loop
-μ-loop out₀ at src i₀ out i = length src - i
+μ-loop out₀ at bytes i₀ out i = length bytes - i
 
 loop-holds : tie.Need-loop-holds Inv-loop μ-loop
-loop-holds c = (omega arith, refl, put-none (c .args .out .now) (c .args .src .now) (c .args .at))
+loop-holds c = (omega arith, refl, copy-begins (c .args .out .now) (c .args .bytes .now) (c .args .at))
 
 shared-slice-read-out : tie.Need-shared-slice-read-out Inv-loop μ-loop
 shared-slice-read-out c = omega arith
@@ -36,7 +36,7 @@ loop-again : tie.Need-loop-again Inv-loop μ-loop
 loop-again c =
     let l = c .before .before in
     let a = l .before .args in
-    (omega arith, simp length-set (omega arith), put-more (l .loop .out) (a .out .now) (a .src .now) (a .at) (l .loop .i) (omega arith) (omega arith) (l .loop .inv .2))
+    (omega arith, simp length-set (omega arith), copy-on (l .loop .out) (a .out .now) (a .bytes .now) (a .at) (l .loop .i) (omega arith) (omega arith) (l .loop .inv .2))
 
 add-result : tie.Need-add-result Inv-loop μ-loop
 add-result c = omega arith
@@ -48,7 +48,7 @@ returns : tie.Need-returns Inv-loop μ-loop
 returns c =
     let l = c .before in
     let a = l .before .args in
-    (omega arith, put-all (l .loop .out) (a .out .now) (a .src .now) (a .at) (l .loop .i) (omega arith) (l .loop .inv .2))
+    (omega arith, copy-ends (l .loop .out) (a .out .now) (a .bytes .now) (a .at) (l .loop .i) (omega arith) (l .loop .inv .2))
 
 pub put-bytes-spec : {M : Type 1} → statement M
 put-bytes-spec =

@@ -1,4 +1,5 @@
-use Rattle.text.specs.Lines.{line-law}
+use lib.ListN.{take}
+use Rattle.text.proofs.Written.{line-made}
 use borrow.Author.Needs.{needs}
 use Rattle.text.proofs.put.put_line.Statement.{statement}
 use Rattle.text.proofs.put.put_line.Tie as tie
@@ -18,7 +19,7 @@ same-length c = search needs
 returns : tie.Need-returns
 returns c =
     let a = c .before .before .before .before .before .before .before .before .before .before .before .before .before .before .before .args in
-    (search needs, line-law (a .word .now) (a .xs .now) (c .before .before .before .before .before .before .before .before .before .before .put-bytes .ensures .1) (c .before .before .before .before .before .before .put-numbers .ensures .1) (c .before .before .put-byte .ensures .1))
+    (search needs, line-made (take (a .at) (a .out .now)) (a .word .now) (a .numbers .now) (c .before .before .before .before .before .before .before .before .before .before .put-bytes .ensures .1) (c .before .before .before .before .before .before .put-numbers .ensures .1) (c .before .before .put-byte .ensures .1))
 
 pub put-line-spec : {M : Type 1} → statement M
 put-line-spec =

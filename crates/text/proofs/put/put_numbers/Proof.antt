@@ -4,15 +4,16 @@ use mathlib.Core.List.{_++_}
 use native.Mathlib.Omega.{arith}
 use borrow.Author.Needs.{needs}
 use lib.ListN.{length, take, drop, getD, length-set}
-use Rattle.text.specs.Lines.{spaced, spaced-more, spaced-end}
+use Rattle.text.specs.Line.{spaced}
+use Rattle.text.proofs.Written.{numbers-on, numbers-end}
 use Rattle.text.proofs.put.put_numbers.Statement.{statement}
 use Rattle.text.proofs.put.put_numbers.Tie as tie
 
 abbrev Inv-loop : tie.InvT-loop
-Inv-loop out₀ at xs i₀ to₀ out i to = (i ≤ length xs) × (length out ≡ length out₀) × (to ≤ at + 21 * i) × (take at out₀ ++ spaced xs ≡ take to out ++ spaced (drop i xs))
+Inv-loop out₀ at numbers i₀ to₀ out i to = (i ≤ length numbers) × (length out ≡ length out₀) × (to ≤ at + 21 * i) × (take at out₀ ++ spaced numbers ≡ take to out ++ spaced (drop i numbers))
 
 abbrev μ-loop : tie.MeasureT-loop
-μ-loop out₀ at xs i₀ to₀ out i to = length xs - i
+μ-loop out₀ at numbers i₀ to₀ out i to = length numbers - i
 
 loop-holds : tie.Need-loop-holds Inv-loop μ-loop
 loop-holds c = search needs
@@ -36,7 +37,7 @@ loop-again : tie.Need-loop-again Inv-loop μ-loop
 loop-again c =
     let l = c .before .before .before .before .before .before in
     let a = l .before .before .before .args in
-    (omega arith, omega (arith, c .before .before .put-spaced .kept), omega arith, spaced-more (take (l .loop .to) (l .loop .out)) (a .xs .now) (l .loop .i) (omega arith) (l .loop .inv .3) (c .before .before .put-spaced .ensures .1))
+    (omega arith, omega (arith, c .before .before .put-spaced .kept), omega arith, numbers-on (take (l .loop .to) (l .loop .out)) (a .numbers .now) (l .loop .i) (omega arith) (l .loop .inv .3) (c .before .before .put-spaced .ensures .1))
 
 same-length : tie.Need-same-length Inv-loop μ-loop
 same-length c = c .before .loop .inv .1
@@ -45,7 +46,7 @@ returns : tie.Need-returns Inv-loop μ-loop
 returns c =
     let l = c .before in
     let a = l .before .before .before .args in
-    (omega arith, spaced-end (a .xs .now) (l .loop .i) (omega arith) (l .loop .inv .3))
+    (omega arith, numbers-end (a .numbers .now) (l .loop .i) (omega arith) (l .loop .inv .3))
 
 pub put-numbers-spec : {M : Type 1} → statement M
 put-numbers-spec =

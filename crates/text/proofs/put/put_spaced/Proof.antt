@@ -3,8 +3,9 @@ use mathlib.Core.Path.{_≡_, refl, sym, ap, _∙_}
 use mathlib.Core.List.{_++_, [], _∷_}
 use native.Mathlib.Omega.{arith}
 use lib.ListN.{length, take, drop, getD, length-set}
-use Rattle.text.specs.Decimal.{decimal, length-word}
-use Rattle.text.specs.Puts.{chain}
+use Rattle.text.specs.Decimal.{decimal}
+use Rattle.text.proofs.Decimal.{length-word}
+use Rattle.text.proofs.Written.{then}
 use borrow.Author.Needs.{needs}
 use Rattle.text.proofs.put.put_spaced.Statement.{statement}
 use Rattle.text.proofs.put.put_spaced.Tie as tie
@@ -21,7 +22,7 @@ same-length c = search needs
 returns : tie.Need-returns
 returns c =
     let a = c .before .before .before .before .before .before .before .before .before .args in
-    (omega (arith, length-word (a .x) (omega arith)), chain (take (a .at) (a .out .now)) (32 ∷ []) (decimal (a .x)) (c .before .before .before .before .before .before .put-byte .ensures .1) (c .before .before .put-decimal .ensures .1))
+    (omega (arith, length-word (a .x) (omega arith)), then (take (a .at) (a .out .now)) (32 ∷ []) (decimal (a .x)) (c .before .before .before .before .before .before .put-byte .ensures .1) (c .before .before .put-decimal .ensures .1))
 
 pub put-spaced-spec : {M : Type 1} → statement M
 put-spaced-spec = tie.close (tie.spec put-byte-requires put-decimal-requires same-length returns)

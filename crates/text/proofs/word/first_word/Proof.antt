@@ -1,0 +1,42 @@
+use borrow.Author.Needs.{needs}
+use Rattle.text.proofs.word.first_word.Statement.{statement}
+use Rattle.text.proofs.word.first_word.Tie as tie
+use Rattle.text.proofs.word.first_word.Reads as reads
+use Rattle.text.proofs.word.first_word.Lts as lts
+use Rattle.text.proofs.fields.field.Reads as field-reads
+use Rattle.text.proofs.word.word_of.Reads as word-of-reads
+
+-- src/word.rt:51:9
+field-requires : tie.Need-field-requires
+field-requires c κs = search needs
+
+-- src/word.rt:54:13
+sub-word-of : tie.Need-sub-word-of
+sub-word-of c = search needs
+
+-- src/word.rt:54:13
+part-word-of-start : tie.Need-part-word-of-start
+part-word-of-start c = search needs
+
+-- src/word.rt:54:13
+part-word-of-end : tie.Need-part-word-of-end
+part-word-of-end c = search needs
+
+-- src/word.rt:54:5
+word-of-requires : tie.Need-word-of-requires
+word-of-requires c κs = search needs
+
+-- src/word.rt:48:1
+returns : tie.Need-returns
+returns c = ?
+
+pub first-word-spec : {M : Type 1} → statement M
+first-word-spec =
+    tie.close
+    (tie.spec
+    field-requires
+    sub-word-of
+    part-word-of-start
+    part-word-of-end
+    word-of-requires
+    returns)
