@@ -4,5 +4,6 @@ pub mod Same
 pub mod Decimal
 pub mod Digits
 pub mod Numeral
+pub mod Sign
 pub mod Every
 pub mod Written
