@@ -1,3 +1,5 @@
+use mathlib.Core.Path.{ap, _∙_}
+use Rattle.text.specs.Word.{wordOf}
 use borrow.Author.Needs.{needs}
 use Rattle.text.proofs.word.first_word.Statement.{statement}
 use Rattle.text.proofs.word.first_word.Tie as tie
@@ -6,29 +8,23 @@ use Rattle.text.proofs.word.first_word.Lts as lts
 use Rattle.text.proofs.fields.field.Reads as field-reads
 use Rattle.text.proofs.word.word_of.Reads as word-of-reads
 
--- src/word.rt:51:9
 field-requires : tie.Need-field-requires
 field-requires c κs = search needs
 
--- src/word.rt:54:13
 sub-word-of : tie.Need-sub-word-of
 sub-word-of c = search needs
 
--- src/word.rt:54:13
 part-word-of-start : tie.Need-part-word-of-start
 part-word-of-start c = search needs
 
--- src/word.rt:54:13
 part-word-of-end : tie.Need-part-word-of-end
 part-word-of-end c = search needs
 
--- src/word.rt:54:5
 word-of-requires : tie.Need-word-of-requires
 word-of-requires c κs = search needs
 
--- src/word.rt:48:1
 returns : tie.Need-returns
-returns c = ?
+returns c = c .word-of .ensures ∙ ap wordOf (c .before .before .field .ensures .1 .0)
 
 pub first-word-spec : {M : Type 1} → statement M
 first-word-spec =
