@@ -1,6 +1,5 @@
 -- Decimal digits: one at a time, and how many. Assumes nothing.
 use Prim.Native.Nat.{ℕ, zero, suc, _+_, _*_, _/_, _%_, _^_, _≤_, _<_}
-use mathlib.Core.Bool.{Bool, cond}
 use mathlib.Core.List.{List, [], _∷_, _++_}
 use mathlib.Core.Path.{_≡_, refl, ap, sym, _∙_}
 use lib.ListN.{length, length-append}
@@ -74,6 +73,7 @@ headed-below (suc k) n h = go (headed-below k (n / 10))
       digit = r .digit;
       leading = λ p. r .leading (omega arith);
     }
+
     go : (n / 10 ≤ k → Headed (n / 10)) → Headed n
     go f = one-or-many n (λ w. one-headed n w) (λ w. many w (f (omega arith)))
 

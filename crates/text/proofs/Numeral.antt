@@ -1,18 +1,18 @@
 -- The readers know the numerals and nothing else: a number read is spelt so, and every number of 1 to 6 digits that is
 -- spelt so is read. Assumes nothing.
 use Prim.Native.Nat.{ℕ, zero, suc, _+_, _*_, _-_, _/_, _%_, _≤_, _<_}
-use mathlib.Core.Bool.{Bool, true, false, cond, true≢false}
+use mathlib.Core.Bool.{Bool, true, false, cond}
 use mathlib.Core.List.{List, [], _∷_, _++_, append-assoc, append-nil}
 use mathlib.Core.Option.{Option, none, some, Option·map, Option·none-ne-some, Option·some-injective}
 use mathlib.Core.Path.{_≡_, refl, ap, sym, _∙_}
 use native.Mathlib.Omega.{arith}
 use lib.Dec.{eqb, leb}
 use lib.IntN.{ℤ, pos, negsuc, natAbs}
-use lib.ListN.{length, drop}
-use borrow.Author.Tests.{eqb-true, eqb-false, leb-true, eq-eqb, ne-eqb}
+use lib.ListN.{length}
+use borrow.Author.Tests.{eqb-true, eqb-false, leb-true, ne-eqb}
 use Rattle.text.specs.Decimal.{decimal}
 use Rattle.text.specs.Number.{digits, alone, naturalOf, hasMinus, negative, integerOf, numeral}
-use Rattle.text.proofs.Decimal.{decimal-one, decimal-many, decimal-snoc, one-or-many, Headed, headed, length-six, six-length}
+use Rattle.text.proofs.Decimal.{decimal-one, decimal-many, decimal-snoc, one-or-many, headed, length-six, six-length}
 use Rattle.text.proofs.Digits.{digits-step}
 
 -- COMPLETE

@@ -1,9 +1,10 @@
-use Prim.Native.Nat.{ℕ, suc, _+_, _-_, _≤_, _<_}
-use mathlib.Core.Path.{_≡_, refl, sym, ap, _∙_}
+-- `text::fields::count` meets its contract. At each turn the fields counted, and those from i on, make one more than all. Assumes nothing.
+use Prim.Native.Nat.{_+_, _-_, _≤_}
+use mathlib.Core.Path.{_≡_}
 use mathlib.Core.Logic.{⊎-elim}
 use native.Mathlib.Omega.{arith}
 use borrow.Author.Needs.{needs}
-use lib.ListN.{length, take, drop, getD}
+use lib.ListN.{length, drop}
 use Rattle.text.specs.Split.{split}
 use Rattle.text.proofs.Split.{count-here, count-on, count-end}
 use Rattle.text.proofs.fields.count.Statement.{statement}

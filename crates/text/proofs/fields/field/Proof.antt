@@ -1,9 +1,9 @@
-use Prim.Native.Nat.{ℕ, suc, _+_, _-_, _≤_, _<_}
-use mathlib.Core.Path.{_≡_, refl, sym, ap, _∙_}
-use mathlib.Core.Logic.{⊎-elim}
+-- `text::fields::field` meets its contract. At each turn the fields from j on are those of the line from `at` on. Assumes nothing.
+use Prim.Native.Nat.{ℕ, _+_, _-_, _≤_}
+use mathlib.Core.Path.{_≡_, ap, _∙_}
 use native.Mathlib.Omega.{arith}
 use borrow.Author.Needs.{needs}
-use lib.ListN.{length, take, drop, getD}
+use lib.ListN.{length, drop, getD}
 use mathlib.Core.List.{[]}
 use Rattle.text.specs.Split.{split}
 use Rattle.text.proofs.Split.{end-within, walk-here, walk-rest, walk-on, past-here, past-rest}
@@ -45,8 +45,10 @@ returns c =
     let w = l .loop .inv .2 in
     let ends = c .before .field-end .ensures in (
       omega (arith, within, ends),
-      (past-here 9 s (l .loop .j) (l .loop .at) (c .before .field-end .result) w ends (c .if1 .left) k (omega arith),
-      past-rest 9 s (l .loop .j) (l .loop .at) (c .before .field-end .result) w ends (c .if1 .left) k (omega arith)),
+      (
+        past-here 9 s (l .loop .j) (l .loop .at) (c .before .field-end .result) w ends (c .if1 .left) k (omega arith),
+        past-rest 9 s (l .loop .j) (l .loop .at) (c .before .field-end .result) w ends (c .if1 .left) k (omega arith),
+      ),
     )
 
 field-end-requires-2 : tie.Need-field-end-requires-2 Inv-loop μ-loop
@@ -62,8 +64,10 @@ returns-2 c =
     let w = l .loop .inv .2 in
     let ends = c .field-end2 .ensures in (
       omega (arith, within, ends),
-      (walk-here 9 s (l .loop .j) (l .loop .at) (c .field-end2 .result) w ends ∙ ap (λ (n : ℕ). getD (split 9 s) n []) j,
-      walk-rest 9 s (l .loop .j) (l .loop .at) (c .field-end2 .result) w ends ∙ ap (λ (n : ℕ). drop (n + 1) (split 9 s)) j),
+      (
+        walk-here 9 s (l .loop .j) (l .loop .at) (c .field-end2 .result) w ends ∙ ap (λ (n : ℕ). getD (split 9 s) n []) j,
+        walk-rest 9 s (l .loop .j) (l .loop .at) (c .field-end2 .result) w ends ∙ ap (λ (n : ℕ). drop (n + 1) (split 9 s)) j,
+      ),
     )
 
 pub field-spec : {M : Type 1} → statement M

@@ -1,9 +1,9 @@
-use Prim.Native.Nat.{ℕ, suc, _+_, _-_, _≤_, _<_}
-use mathlib.Core.Path.{_≡_, refl, sym, ap, _∙_}
-use mathlib.Core.Logic.{⊎-elim}
+-- `text::fields::field_end` meets its contract. At each turn the field's end as seen from i is its end. Assumes nothing.
+use Prim.Native.Nat.{_+_, _-_}
+use mathlib.Core.Path.{_≡_}
 use native.Mathlib.Omega.{arith}
 use borrow.Author.Needs.{needs}
-use lib.ListN.{length, take, drop, getD}
+use lib.ListN.{length, drop}
 use Rattle.text.specs.Split.{until}
 use Rattle.text.proofs.Split.{until-here, until-on, until-end}
 use Rattle.text.proofs.fields.field_end.Statement.{statement}

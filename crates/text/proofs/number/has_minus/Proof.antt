@@ -1,10 +1,9 @@
+-- `text::number::has_minus` meets its contract. Assumes nothing.
 use mathlib.Core.Path.{sym}
 use Rattle.text.proofs.Digits.{minus-empty, minus-first}
 use borrow.Author.Needs.{needs}
 use Rattle.text.proofs.number.has_minus.Statement.{statement}
 use Rattle.text.proofs.number.has_minus.Tie as tie
-use Rattle.text.proofs.number.has_minus.Reads as reads
-use Rattle.text.proofs.number.has_minus.Lts as lts
 
 returns : tie.Need-returns
 returns c = sym (minus-empty (c .before .args .t .now) (c .if1 .taken))

@@ -1,3 +1,4 @@
+-- `text::number::integer_in` meets its contract. Assumes nothing.
 use Prim.Native.Nat.{_≤_}
 use mathlib.Core.Option.{none, some, Option·map}
 use mathlib.Core.Path.{_≡_, sym, ap, _∙_}
@@ -9,10 +10,6 @@ use Rattle.text.proofs.Sign.{natural-told, minus-some, behind-minus, in
 use borrow.Author.Needs.{needs}
 use Rattle.text.proofs.number.integer_in.Statement.{statement}
 use Rattle.text.proofs.number.integer_in.Tie as tie
-use Rattle.text.proofs.number.integer_in.Reads as reads
-use Rattle.text.proofs.number.integer_in.Lts as lts
-use Rattle.text.proofs.number.has_minus.Reads as has-minus-reads
-use Rattle.text.proofs.number.natural_in.Reads as natural-in-reads
 
 starts : (c : tie.Then1) → 1 ≤ length (c .before .before .before .args .t .now)
 starts c = minus-some (c .before .before .before .args .t .now) (sym (c .before .has-minus .ensures) ∙ c .if1 .taken)

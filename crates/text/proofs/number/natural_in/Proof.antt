@@ -1,3 +1,4 @@
+-- `text::number::natural_in` meets its contract. At each turn the numeral says what the digits from i on say behind v. Assumes nothing.
 use Prim.Native.Nat.{_-_, _≤_, _<_}
 use mathlib.Core.Path.{_≡_, sym, ap, _∙_}
 use native.Mathlib.Omega.{arith}
@@ -6,8 +7,6 @@ use Rattle.text.specs.Number.{digits, naturalOf, readNatural}
 use Rattle.text.proofs.Digits.{digits-end, digits-low, digits-high, digits-full, digits-on, natural-empty, natural-zero, natural-padded, natural-digits}
 use Rattle.text.proofs.number.natural_in.Statement.{statement}
 use Rattle.text.proofs.number.natural_in.Tie as tie
-use Rattle.text.proofs.number.natural_in.Reads as reads
-use Rattle.text.proofs.number.natural_in.Lts as lts
 
 abbrev Inv-loop : tie.InvT-loop
 Inv-loop t v₀ i₀ v i = (i ≤ length t) × (v < 1000000) × (naturalOf t ≡ digits v (drop i t))
@@ -34,19 +33,19 @@ shared-slice-read-d : tie.Need-shared-slice-read-d Inv-loop μ-loop
 shared-slice-read-d c = omega arith
 
 returns-4 : tie.Need-returns-4 Inv-loop μ-loop
-returns-4 c = 
+returns-4 c =
     let l = c .before .before .before in
     let t = l .before .before .before .before .args .t .now in
     sym (ap readNatural (l .loop .inv .2 ∙ digits-low t (l .loop .i) (l .loop .v) (omega arith) (c .if4 .taken)))
 
 returns-5 : tie.Need-returns-5 Inv-loop μ-loop
-returns-5 c = 
+returns-5 c =
     let l = c .before .before .before .before in
     let t = l .before .before .before .before .args .t .now in
     sym (ap readNatural (l .loop .inv .2 ∙ digits-high t (l .loop .i) (l .loop .v) (omega arith) (c .before .if4 .left) (c .if5 .taken)))
 
 returns-6 : tie.Need-returns-6 Inv-loop μ-loop
-returns-6 c = 
+returns-6 c =
     let l = c .before .before .before .before .before in
     let t = l .before .before .before .before .args .t .now in
     sym (ap readNatural (l .loop .inv .2 ∙ digits-full t (l .loop .i) (l .loop .v) (omega arith) (c .before .before .if4 .left) (c .before .if5 .left) (c .if6 .taken)))
@@ -67,13 +66,13 @@ loop-less : tie.Need-loop-less Inv-loop μ-loop
 loop-less c = omega arith
 
 loop-again : tie.Need-loop-again Inv-loop μ-loop
-loop-again c = 
+loop-again c =
     let l = c .before .before .before .before .before in
     let t = l .before .before .before .before .args .t .now in
     (omega arith, omega arith, l .loop .inv .2 ∙ digits-on t (l .loop .i) (l .loop .v) (omega arith) (c .before .before .if4 .left) (c .before .if5 .left) (c .if6 .left))
 
 returns-7 : tie.Need-returns-7 Inv-loop μ-loop
-returns-7 c = 
+returns-7 c =
     let l = c .before in
     let t = l .before .before .before .before .args .t .now in
     sym (ap readNatural (l .loop .inv .2 ∙ digits-end t (l .loop .i) (l .loop .v) (c .loop-test .left)))

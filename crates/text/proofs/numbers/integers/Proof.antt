@@ -1,3 +1,4 @@
+-- `text::numbers::integers` meets its contract. The loop keeps `Reading`. Assumes nothing.
 use Prim.Native.Nat.{_+_, _-_}
 use native.Mathlib.Omega.{arith}
 use borrow.Author.Needs.{needs}
@@ -11,11 +12,6 @@ use Rattle.text.proofs.Sign.{integer-told}
 use Rattle.text.proofs.Every.{Reading, reading-begins, reading-ends, reading-short, reading-bad, reading-on}
 use Rattle.text.proofs.numbers.integers.Statement.{statement}
 use Rattle.text.proofs.numbers.integers.Tie as tie
-use Rattle.text.proofs.numbers.integers.Reads as reads
-use Rattle.text.proofs.numbers.integers.Lts as lts
-use Rattle.text.proofs.fields.field.Reads as field-reads
-use Rattle.text.proofs.fields.field_end.Reads as field-end-reads
-use Rattle.text.proofs.number.integer_in.Reads as integer-in-reads
 
 abbrev Inv-loop : tie.InvT-loop
 Inv-loop line k n out₀ end₀ j₀ out end j = Reading integerOf line k n out₀ out end j

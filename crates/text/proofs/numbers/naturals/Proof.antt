@@ -1,3 +1,4 @@
+-- `text::numbers::naturals` meets its contract. The loop keeps `Reading`. Assumes nothing.
 use Prim.Native.Nat.{_+_, _-_}
 use native.Mathlib.Omega.{arith}
 use borrow.Author.Needs.{needs}
@@ -8,11 +9,6 @@ use Rattle.text.proofs.Sign.{natural-told}
 use Rattle.text.proofs.Every.{Reading, reading-begins, reading-ends, reading-short, reading-bad, reading-on, to-bad, to-over, to-good}
 use Rattle.text.proofs.numbers.naturals.Statement.{statement}
 use Rattle.text.proofs.numbers.naturals.Tie as tie
-use Rattle.text.proofs.numbers.naturals.Reads as reads
-use Rattle.text.proofs.numbers.naturals.Lts as lts
-use Rattle.text.proofs.fields.field.Reads as field-reads
-use Rattle.text.proofs.fields.field_end.Reads as field-end-reads
-use Rattle.text.proofs.number.natural_in.Reads as natural-in-reads
 
 abbrev Inv-loop : tie.InvT-loop
 Inv-loop line k n most out₀ end₀ j₀ out end j = Reading (naturalTo most) line k n out₀ out end j

@@ -1,10 +1,11 @@
+-- `text::put::put_decimal`, which calls itself on fewer digits, meets its contract. Assumes nothing.
 use mathlib.Core.List.{List, [], _∷_, _++_}
 use Rattle.text.proofs.Written.{then}
 use borrow.Author.Needs.{needs}
 use native.Mathlib.Omega.{arith}
-use Prim.Native.Nat.{_+_, _-_, _≤_, _/_, _%_}
-use mathlib.Core.Path.{_≡_, refl, sym, ap, _∙_}
-use lib.ListN.{length, take}
+use Prim.Native.Nat.{_+_, _≤_, _/_, _%_}
+use mathlib.Core.Path.{sym, ap, _∙_}
+use lib.ListN.{take}
 use Rattle.text.specs.Decimal.{decimal}
 use Rattle.text.proofs.Decimal.{decimal-one, decimal-many, length-one, length-many}
 use Prim.Native.Nat.{ℕ, _<_}

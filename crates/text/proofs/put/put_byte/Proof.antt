@@ -1,3 +1,4 @@
+-- `text::put::put_byte` meets its contract. Assumes nothing.
 use Rattle.text.proofs.Written.{one-put}
 use borrow.Author.Needs.{needs}
 use Rattle.text.proofs.put.put_byte.Statement.{statement}

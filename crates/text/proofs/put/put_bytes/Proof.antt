@@ -1,9 +1,9 @@
-use Prim.Native.Nat.{ℕ, suc, _+_, _*_, _-_, _≤_, _<_}
-use mathlib.Core.Path.{_≡_, refl, sym, ap, _∙_}
+-- `text::put::put_bytes` meets its contract. At each turn i of the bytes stand behind the first `at`. Assumes nothing.
+use Prim.Native.Nat.{_+_, _-_, _≤_}
+use mathlib.Core.Path.{_≡_, refl}
 use mathlib.Core.List.{_++_}
 use native.Mathlib.Omega.{arith}
-use borrow.Author.Needs.{needs}
-use lib.ListN.{length, take, drop, getD, length-set}
+use lib.ListN.{length, take, length-set}
 use Rattle.text.proofs.Written.{copy-begins, copy-on, copy-ends}
 use Rattle.text.proofs.put.put_bytes.Statement.{statement}
 use Rattle.text.proofs.put.put_bytes.Tie as tie

@@ -1,3 +1,4 @@
+-- `text::put::put_line` meets its contract. Assumes nothing.
 use lib.ListN.{take}
 use Rattle.text.proofs.Written.{line-made}
 use borrow.Author.Needs.{needs}

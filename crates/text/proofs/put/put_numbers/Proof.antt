@@ -1,9 +1,10 @@
-use Prim.Native.Nat.{ℕ, suc, _+_, _*_, _-_, _≤_, _<_}
-use mathlib.Core.Path.{_≡_, refl, sym, ap, _∙_}
+-- `text::put::put_numbers` meets its contract. At each turn what is written, and the numbers from i on, make the whole. Assumes nothing.
+use Prim.Native.Nat.{_+_, _*_, _-_, _≤_}
+use mathlib.Core.Path.{_≡_}
 use mathlib.Core.List.{_++_}
 use native.Mathlib.Omega.{arith}
 use borrow.Author.Needs.{needs}
-use lib.ListN.{length, take, drop, getD, length-set}
+use lib.ListN.{length, take, drop}
 use Rattle.text.specs.Line.{spaced}
 use Rattle.text.proofs.Written.{numbers-on, numbers-end}
 use Rattle.text.proofs.put.put_numbers.Statement.{statement}

@@ -1,12 +1,9 @@
+-- `text::word::first_word` meets its contract. Assumes nothing.
 use mathlib.Core.Path.{ap, _∙_}
 use Rattle.text.specs.Word.{wordOf}
 use borrow.Author.Needs.{needs}
 use Rattle.text.proofs.word.first_word.Statement.{statement}
 use Rattle.text.proofs.word.first_word.Tie as tie
-use Rattle.text.proofs.word.first_word.Reads as reads
-use Rattle.text.proofs.word.first_word.Lts as lts
-use Rattle.text.proofs.fields.field.Reads as field-reads
-use Rattle.text.proofs.word.word_of.Reads as word-of-reads
 
 field-requires : tie.Need-field-requires
 field-requires c κs = search needs

@@ -1,9 +1,9 @@
-use Prim.Native.Nat.{ℕ, suc, _+_, _*_, _-_, _≤_, _<_}
-use mathlib.Core.Path.{_≡_, refl, sym, ap, _∙_}
-use mathlib.Core.Logic.{⊎-elim}
+-- `text::word::same_bytes` meets its contract. At each turn the rests from i on compare as the whole do. Assumes nothing.
+use Prim.Native.Nat.{_-_, _≤_}
+use mathlib.Core.Path.{_≡_, sym}
 use native.Mathlib.Omega.{arith}
 use borrow.Author.Needs.{needs}
-use lib.ListN.{length, take, drop, getD}
+use lib.ListN.{length, drop}
 use Rattle.text.specs.Word.{same}
 use Rattle.text.proofs.Same.{same-length, same-on, same-other, same-end}
 use Rattle.text.proofs.word.same_bytes.Statement.{statement}

@@ -1,4 +1,5 @@
-use mathlib.Core.Path.{_≡_, refl, sym, ap, _∙_}
+-- `text::word::word_of` meets its contract. Assumes nothing.
+use mathlib.Core.Path.{_≡_, sym, _∙_}
 use mathlib.Core.Bool.{true, false}
 use Rattle.text.specs.Word.{same, GRID, DENS, RAY}
 use borrow.Author.Needs.{needs}
