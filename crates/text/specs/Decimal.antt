@@ -11,5 +11,4 @@ digitsOf zero n = (48 + n) ∷ []
 digitsOf (suc k) n = let tens = digitsOf k (n / 10) in cond (ltb n 10) ((48 + n) ∷ []) (tens ++ (48 + n % 10) ∷ [])
 
 unfoldable pub decimal : ℕ → List ℕ
-unfolding digitsOf
 decimal n = digitsOf n n

@@ -10,5 +10,4 @@ spaced (x ∷ xs) = 32 ∷ (decimal x ++ spaced xs)
 
 -- a word, some numbers, LF
 unfoldable pub lineOf : List ℕ → List ℕ → List ℕ
-unfolding spaced
 lineOf word numbers = word ++ (spaced numbers ++ 10 ∷ [])

@@ -49,7 +49,7 @@ abbrev pub readInteger : Option ℤ → Integer
 readInteger none = integer.Bad
 readInteger (some z) = integer.Value z
 
--- the numeral of a number, which a reader must know, and must know nothing else
+-- a number as it is spelt: the two readers know these, up to six digits, and nothing else (the laws are in proofs/)
 abbrev pub numeral : ℤ → List ℕ
 numeral (pos v) = decimal v
 numeral (negsuc v) = 45 ∷ decimal (suc v)
