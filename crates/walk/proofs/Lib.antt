@@ -9,3 +9,4 @@ pub mod Scenes
 pub mod Hops
 pub mod Walking
 pub mod Found
+pub mod Index
