@@ -10,3 +10,5 @@ pub mod Hops
 pub mod Walking
 pub mod Found
 pub mod Index
+pub mod Sizes
+pub mod Frames
