@@ -12,3 +12,5 @@ pub mod Found
 pub mod Index
 pub mod Sizes
 pub mod Frames
+pub mod Crossing
+pub mod Plans

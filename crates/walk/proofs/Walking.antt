@@ -13,29 +13,14 @@ use Rattle.walk.specs.declared.line.Scene.{Scene}
 use Rattle.walk.specs.declared.steps.Walk.{Walk}
 use Rattle.walk.specs.declared.steps.Strides.{Strides}
 use Rattle.walk.specs.Scene.{line, Able}
-use Rattle.walk.specs.Model.{soonest, further, stepped}
+use Rattle.walk.specs.Model.{leaveOf, stepOf, jumpOf, soonest, stepped}
+use Rattle.walk.specs.Plan.{unit}
 use Rattle.walk.proofs.Units.{Way, up, down, still, HeldBy}
 use Rattle.walk.proofs.Three.{most, least, most-le, le-most, least-le, least-one, lt-least, least-mono, most-mono, most-same, least-same}
 use Rattle.walk.proofs.Stretch.{onward, Next, next, enter-whole, leave-whole, one-voxel, HeldAt}
 use Rattle.walk.proofs.Numbers.{number, place-number, number-below, place-below, number-place}
 use Rattle.walk.proofs.Scenes.{vol, ray, way, enter, leave, Held, start-voxel, stop-voxel, start-array, stop-array, Met, met, part-met, rest-some}
-use Rattle.walk.proofs.Hops.{Jump, Left, unit, number-small, all-over}
-
--- the walk's fields by side
-abbrev pub leaveOf : Walk → Side → ℕ
-leaveOf w X = w .x
-leaveOf w Y = w .y
-leaveOf w Z = w .z
-
-abbrev pub stepOf : Strides → Side → ℕ
-stepOf t X = t .dx
-stepOf t Y = t .dy
-stepOf t Z = t .dz
-
-abbrev pub jumpOf : Strides → Side → ℕ
-jumpOf t X = t .vx
-jumpOf t Y = t .vy
-jumpOf t Z = t .vz
+use Rattle.walk.proofs.Hops.{Jump, Left, number-small, all-over}
 
 -- the strides are those of the scene
 pub record Paced (s : Scene) (t : Strides) : Type 0 where

@@ -1,12 +1,12 @@
 -- What is worked out of a scene before the walk. Definitions only. Assumes nothing.
-use Prim.Native.Nat.{ℕ, _+_, _-_, _*_, _^_, _≤_, _<_}
+use Prim.Native.Nat.{ℕ, _+_, _*_, _^_, _≤_, _<_}
 use mathlib.Core.Path.{_≡_}
 use mathlib.Core.Bool.{Bool, true, _&&_, not, cond}
 use mathlib.Core.List.{map}
 use lib.IntN.{pos}
 use lib.Dec.{ltb}
 use Rattle.axis.specs.Leg.{moving, run, enters, leaves, held}
-use Rattle.ray.specs.Length.{Side, X, Y, Z, rest, dOf, array, start, stop, misses, partOf, listOf, total, crossedOf}
+use Rattle.ray.specs.Length.{Side, X, Y, Z, Volume, rest, dOf, array, start, stop, misses, partOf, listOf, total, crossedOf}
 use Rattle.walk.specs.declared.line.Line.{Line}
 use Rattle.walk.specs.declared.line.Scene.{Scene}
 use Rattle.walk.specs.declared.steps.Walk.{Walk}
@@ -14,8 +14,8 @@ use Rattle.walk.specs.declared.steps.Strides.{Strides}
 use Rattle.walk.specs.declared.reach.Reach.{Reach}
 use Rattle.walk.specs.declared.plan.Frame.{Frame}
 use Rattle.walk.specs.declared.plan.Plan.{Plan}
-use Rattle.walk.specs.Scene.{legN, slabN, plane, volumeOf, rayOf, Within}
-use Rattle.walk.specs.Model.{voxels, parts, entries, Forward}
+use Rattle.walk.specs.Scene.{legN, slabN, plane, line, volumeOf, rayOf, Within}
+use Rattle.walk.specs.Model.{leaveOf, stepOf, jumpOf, voxels, parts, entries, Forward}
 
 -- one axis against its first and last plane
 pub record Reached (a : Line) (c : ℕ) (r : Reach) : Type 0 where
@@ -45,6 +45,26 @@ pub record Framed (s : Scene) (f : Frame) : Type 0 where
   pub from-is : f .from ≡ start (rayOf s) (array (volumeOf s))
   pub to-is : f .to ≡ stop (rayOf s) (array (volumeOf s))
   pub hit-is : f .hit ≡ not (misses (volumeOf s) (rayOf s))
+
+-- on each axis the ticks from plane to plane, and what one voxel on adds to the number: `unit` modulo 2^64
+abbrev pub unit : Volume → Side → ℕ
+unit v X = 1
+unit v Y = v X .n
+unit v Z = v Y .n * v X .n
+
+pub record Strided (s : Scene) (f : Frame) (t : Strides) : Type 0 where
+  pub ticks : (o : Side) → stepOf t o ≡ line s o .d * restOf f o
+  pub upward : (o : Side) → line s o .p < line s o .q → jumpOf t o ≡ unit (volumeOf s) o
+  pub downward : (o : Side) → line s o .q < line s o .p → jumpOf t o + unit (volumeOf s) o ≡ 2 ^ 64
+
+-- the walk's first voxel, at `at` on each axis
+pub record Begun (s : Scene) (f : Frame) (w : Walk) : Type 0 where
+  pub at : Side → ℕ
+  pub within : (o : Side) → Within (line s o) (restOf f o) (f .from) (at o)
+  pub leaves-at : (o : Side) → leaveOf w o ≡ leaves (restOf f o) (legN (line s o .p) (line s o .q)) (slabN (plane (line s o) (at o)) (plane (line s o) (at o + 1)))
+  pub leaves-size : (o : Side) → leaveOf w o ≤ 2 ^ 60
+  pub number : w .v ≡ (at Z * s .y .n + at Y) * s .x .n + at X
+  pub tick : w .t ≡ f .from
 
 -- a walk whose entries are the list with its parts
 pub record Planned (s : Scene) (to : ℕ) (p : Plan) : Type 0 where

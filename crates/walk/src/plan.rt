@@ -1,9 +1,10 @@
 // What is worked out of a scene before the walk: D, the window of the array, the first voxel, the strides.
 ghost use mathlib.Core.Path.{_≡_};
-ghost use mathlib.Core.Bool.{_&&_};
+ghost use mathlib.Core.Bool.{true, _&&_};
 ghost use lib.Dec.{ltb};
-ghost use Rattle.walk.specs.Scene.{Able};
-ghost use Rattle.walk.specs.Plan.{Framed};
+ghost use Rattle.ray.specs.Length.{crossedOf};
+ghost use Rattle.walk.specs.Scene.{Able, volumeOf, rayOf};
+ghost use Rattle.walk.specs.Plan.{Framed, Strided, Begun, Planned};
 use crate::extremes::least;
 use crate::extremes::most;
 use crate::line::Line;
@@ -71,5 +72,70 @@ pub fn frame_of(s: Scene) -> Frame
         from,
         to,
         hit,
+    }
+}
+
+fn strides_of(s: Scene, f: Frame) -> Strides
+    requires { ⌜ Able s × Framed s f ⌝ }
+    ensures { λ r. ⌜ Strided s f r ⌝ }
+{
+    let x = s.x;
+    let y = s.y;
+    let z = s.z;
+    Strides {
+        dx: x.d * f.cx,
+        dy: y.d * f.cy,
+        dz: z.d * f.cz,
+        vx: x.jump(1),
+        vy: y.jump(x.n),
+        vz: z.jump(y.n * x.n),
+    }
+}
+
+// Into the first voxel.
+fn walk_of(s: Scene, f: Frame) -> Walk
+    requires { ⌜ Able s × Framed s f × (f .hit ≡ true) ⌝ }
+    ensures { λ r. ⌜ Begun s f r ⌝ }
+{
+    let x = s.x;
+    let y = s.y;
+    let z = s.z;
+    let from = f.from;
+    let i = x.index(f.cx, from);
+    let j = y.index(f.cy, from);
+    let k = z.index(f.cz, from);
+    Walk {
+        x: x.leave_tick(f.cx, i),
+        y: y.leave_tick(f.cy, j),
+        z: z.leave_tick(f.cz, k),
+        v: (k * y.n + j) * x.n + i,
+        t: from,
+    }
+}
+
+fn crossed_of(s: Scene, f: Frame) -> u64
+    requires { ⌜ Able s × Framed s f × (f .hit ≡ true) ⌝ }
+    ensures { λ r. ⌜ r ≡ crossedOf (volumeOf s) (rayOf s) ⌝ }
+{
+    let x = s.x;
+    let y = s.y;
+    let z = s.z;
+    let from = f.from;
+    let to = f.to;
+    x.crossed(f.cx, from, to) + y.crossed(f.cy, from, to) + z.crossed(f.cz, from, to)
+}
+
+// The walk of a ray that hits.
+pub fn plan_of(s: Scene, f: Frame) -> Plan
+    requires { ⌜ Able s × Framed s f × (f .hit ≡ true) ⌝ }
+    ensures { λ r. ⌜ Planned s (f .to) r ⌝ }
+{
+    let walk = walk_of(s, f);
+    let strides = strides_of(s, f);
+    let crossed = crossed_of(s, f);
+    Plan {
+        walk,
+        strides,
+        crossed,
     }
 }
