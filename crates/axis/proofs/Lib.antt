@@ -2,3 +2,4 @@
 pub mod Flag
 pub mod Shift
 pub mod Bounds
+pub mod Once

@@ -18,17 +18,17 @@ shift k z = natural (z +ℤ pos k)
 abbrev pub Low : ℕ → ℤ → Type 0
 Low k z = T (leZ (negℤ (pos k)) z)
 
-sub-ge : (a b : ℕ) → b ≤ a → subℕ a b ≡ pos (a - b)
+pub sub-ge : (a b : ℕ) → b ≤ a → subℕ a b ≡ pos (a - b)
 sub-ge a b h = rw (le-ltb a b h)
 
-sub-lt : (a b : ℕ) → a < b → subℕ a b ≡ negsuc (b - suc a)
+pub sub-lt : (a b : ℕ) → a < b → subℕ a b ≡ negsuc (b - suc a)
 sub-lt a b h = rw (lt-ltb a b h)
 
 -- a difference of naturals, cut off at 0
 natural-sub : (a b : ℕ) → natural (subℕ a b) ≡ a - b
 natural-sub a b = elim (decLt a b) [ yes h ↦ rw (sub-lt a b h) (omega arith) | no h ↦ rw (sub-ge a b (omega arith)) refl ]
 
-natural-diff : (a b : ℕ) → natural (pos a -ℤ pos b) ≡ a - b
+pub natural-diff : (a b : ℕ) → natural (pos a -ℤ pos b) ≡ a - b
 natural-diff a zero = omega arith
 natural-diff a (suc b) = natural-sub a (suc b)
 

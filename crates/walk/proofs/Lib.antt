@@ -1,0 +1,3 @@
+-- Laws of the walk.
+pub mod Units
+pub mod Turn

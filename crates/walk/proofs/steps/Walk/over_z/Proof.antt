@@ -1,0 +1,18 @@
+use borrow.Author.Needs.{needs}
+use Rattle.walk.proofs.steps.Walk.over_z.Statement.{statement}
+use Rattle.walk.proofs.steps.Walk.over_z.Tie as tie
+use Rattle.walk.proofs.steps.Walk.over_z.Reads as reads
+use Rattle.walk.proofs.steps.Walk.over_z.Lts as lts
+use Rattle.std.proofs.num.wrapping_add_u64.Reads as wrapping-add-u64-reads
+
+wrapping-add-u64-requires : tie.Need-wrapping-add-u64-requires
+wrapping-add-u64-requires c κs = search needs
+
+add-t5 : tie.Need-add-t5
+add-t5 c = search needs
+
+returns : tie.Need-returns
+returns c = rw (c .before .before .wrapping-add-u64 .ensures)
+
+pub over-z-spec : {M : Type 1} → statement M
+over-z-spec = tie.close (tie.spec wrapping-add-u64-requires add-t5 returns)

@@ -1,0 +1,3 @@
+// The exact walk: from a scene in whole numbers without a sign to the voxels that the ray meets, in order, and the parts.
+pub mod line;
+pub mod steps;
