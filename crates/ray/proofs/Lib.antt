@@ -14,3 +14,4 @@ pub mod Down
 pub mod Way
 pub mod Capped
 pub mod Turned
+pub mod CutLeg

@@ -24,7 +24,7 @@ le-sign (pos (suc a)) (negsuc b) = refl
 le-sign (negsuc a) (pos b) = refl
 le-sign (negsuc a) (negsuc b) = sym (sign-sub (suc a) (suc b) ∙ leb·suc-suc b a)
 
-lt-le : (a b : ℤ) → ltZ a b ≡ not (leZ b a)
+pub lt-le : (a b : ℤ) → ltZ a b ≡ not (leZ b a)
 lt-le (pos a) (pos b) = lt-not-le a b
 lt-le (pos a) (negsuc b) = refl
 lt-le (negsuc a) (pos b) = refl

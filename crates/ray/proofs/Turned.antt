@@ -14,9 +14,10 @@ use Rattle.axis.proofs.Flag.{off-or-on}
 use Rattle.axis.proofs.Shift.{shift, Low}
 use Rattle.ray.specs.declared.Ray.{Ray}
 use Rattle.ray.specs.Length.{Side, X, Y, Z, leg, dOf, rest, squaredOf, Volume, count, array, voxel, holds, start, stop, partOf, misses, spanOf, total, sumOf, crosses, crossedOf}
+use Rattle.ray.proofs.Total.{total-same}
 use Rattle.ray.proofs.Through.{max-falls, min-falls, max-falls-3, min-falls-3, sub-times}
 use Rattle.ray.proofs.Down.{down-falls, gap-down, leb-down, later, crossing-down}
-use Rattle.ray.proofs.Way.{low-abs, neg-diff, Way, up, down, still, Goes, way, moving-by, factor-by, run-by, passed, still-same}
+use Rattle.ray.proofs.Way.{neg-diff, Way, up, down, still, Goes, moving-by, factor-by, run-by, passed, told, still-same}
 use Rattle.ray.proofs.Capped.{on, on-passed, d-side, enter, leave, begin, begin-sides, stop-sides, stop-cap, part, part-voxel, Met, met}
 
 -- the leg from q to p
@@ -46,16 +47,10 @@ module _ (k : ℕ) (l : Leg) (hp : Low k (l .p)) (hq : Low k (l .q)) where
   passed-back′ c hc m still g = off-or-on (moving l) m (moving-by k l hp hq still g)
 
 factor-back : (l : Leg) → factor (back l) ≡ factor l
-factor-back l =
-    let k : ℕ = natAbs (l .p) + natAbs (l .q) in
-    let w = way (shift k (l .p)) (shift k (l .q)) in
-    factor-back′ k l (low-abs k (l .p) (omega arith)) (low-abs k (l .q) (omega arith)) (w .0) (w .1)
+factor-back l = told l (l .p) (l .p) (λ k hp hq hc hm. factor-back′ k l hp hq)
 
 passed-back : (l : Leg) (c : ℤ) → moving l ≡ true → passed (back l) c ≡ factor l - passed l c
-passed-back l c m =
-    let k : ℕ = natAbs (l .p) + natAbs (l .q) + natAbs c in
-    let w = way (shift k (l .p)) (shift k (l .q)) in
-    passed-back′ k l (low-abs k (l .p) (omega arith)) (low-abs k (l .q) (omega arith)) c (low-abs k c (omega arith)) m (w .0) (w .1)
+passed-back l c m = told l c c (λ k hp hq hc hm. passed-back′ k l hp hq c hc m)
 
 held-back : (l : Leg) (t : Slab) → held (back l) t ≡ held l t
 held-back l t = rw (moving-back l) (go (moving l) refl)
@@ -71,11 +66,6 @@ abs-neg (negsuc n) = refl
 
 abs-back : (x y : ℤ) → natAbs (y -ℤ x) ≡ natAbs (x -ℤ y)
 abs-back x y = ap natAbs (sym (neg-diff x y)) ∙ abs-neg (x -ℤ y)
-
-total-same : (f g : ℕ → ℕ) → ((m : ℕ) → f m ≡ g m) → (n : ℕ) → total f n ≡ total g n
-unfolding total
-total-same f g e zero = refl
-total-same f g e (suc n) = rw (total-same f g e n, e n)
 
 -- ---- the ray from Q to P
 
@@ -184,7 +174,7 @@ module _ (v : Volume) (r : Ray) where
 
   pub sum-turned : (densities : List ℕ) → sumOf v (turned r) densities ≡ sumOf v r densities
   unfolding sumOf
-  sum-turned densities = total-same _ _ (λ m. ap (λ (x : ℕ). x * getD densities m 0) (voxel-turned m)) (count v)
+  sum-turned densities = total-same _ _ (count v) (λ m h. ap (λ (x : ℕ). x * getD densities m 0) (voxel-turned m))
 
   -- a plane is crossed either way
   pub crosses-turned : (s : Side) (i : ℕ) → crosses v (turned r) s i ≡ crosses v r s i
@@ -213,5 +203,5 @@ module _ (v : Volume) (r : Ray) where
   unfolding crossedOf
   crossed-turned =
       let same : (s : Side) → total (λ i. cond (crosses v (turned r) s i) 1 0) (v s .n + 1) ≡ total (λ i. cond (crosses v r s i) 1 0) (v s .n + 1) =
-      λ s. total-same _ _ (λ i. ap (λ (t : Bool). cond t 1 0) (crosses-turned s i)) (v s .n + 1) in
+      λ s. total-same _ _ (v s .n + 1) (λ i h. ap (λ (t : Bool). cond t 1 0) (crosses-turned s i)) in
       rw (misses-turned, same X, same Y, same Z)

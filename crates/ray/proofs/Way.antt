@@ -6,25 +6,20 @@ use native.Mathlib.Nat.{mul-zero}
 use native.Mathlib.Omega.{arith}
 use native.Mathlib.Decide.{decLt}
 use lib.IntN.{ℤ, pos, negsuc, negℤ, natAbs, _-ℤ_, _*ℤ_, negℤ-+ℤ, negℤ-negℤ, +ℤ-comm, +ℤ-negℤ-cancel}
-use lib.Signed.{leZ, ltZ}
+use lib.Signed.{ltZ}
 use lib.Dec.{ltb, le→leb}
 use borrow.Author.Tests.{le-ltb, lt-ltb}
 use Rattle.axis.specs.Leg.{Leg, moving, factor, natural, run}
 use Rattle.axis.proofs.Flag.{lt-not-le, off-or-on}
+use Rattle.ray.proofs.MovedAxis.{lt-le}
 use Rattle.axis.proofs.Shift.{shift, Low, low-pos, shift-is, shift-order, above-shift}
 
 -- ---- whole numbers, told from a lower bound up
 
-pub low-abs : (k : ℕ) (z : ℤ) → natAbs z ≤ k → Low k z
+low-abs : (k : ℕ) (z : ℤ) → natAbs z ≤ k → Low k z
 low-abs k (pos n) h = low-pos k n
 low-abs (suc k) (negsuc n) h = le→leb n k (omega arith)
 low-abs zero (negsuc n) h = absurd (omega arith)
-
-lt-as-le : (x y : ℤ) → ltZ x y ≡ not (leZ y x)
-lt-as-le (pos a) (pos b) = lt-not-le a b
-lt-as-le (pos a) (negsuc b) = refl
-lt-as-le (negsuc a) (pos b) = refl
-lt-as-le (negsuc a) (negsuc b) = lt-not-le b a
 
 abs-both : (z : ℤ) → natAbs z ≡ natural z + natural (negℤ z)
 abs-both (pos zero) = refl
@@ -49,7 +44,7 @@ natural-times-neg d (negsuc n) = ap natural (negℤ-negℤ (pos (d * suc n)))
 
 module _ (k : ℕ) (x y : ℤ) (hx : Low k x) (hy : Low k y) where
   lt-shift : ltZ x y ≡ ltb (shift k x) (shift k y)
-  lt-shift = lt-as-le x y ∙ ap not (shift-order k y x hy hx) ∙ sym (lt-not-le (shift k x) (shift k y))
+  lt-shift = lt-le x y ∙ ap not (shift-order k y x hy hx) ∙ sym (lt-not-le (shift k x) (shift k y))
 
   lt-yes : shift k x < shift k y → ltZ x y ≡ true
   lt-yes h = lt-shift ∙ lt-ltb _ _ h
@@ -63,7 +58,7 @@ module _ (k : ℕ) (x y : ℤ) (hx : Low k x) (hy : Low k y) where
       let b : natural (negℤ (x -ℤ y)) ≡ shift k y - shift k x = ap natural (neg-diff x y) ∙ above-shift k y x hy hx in
       omega (arith, abs-both (x -ℤ y))
 
-  pub same-shift : shift k x ≡ shift k y → x ≡ y
+  same-shift : shift k x ≡ shift k y → x ≡ y
   same-shift e =
       sym (+ℤ-negℤ-cancel x (pos k))
       ∙ ap (λ (z : ℤ). z -ℤ pos k) (shift-is k x hx ∙ ap pos e ∙ sym (shift-is k y hy))
@@ -99,7 +94,7 @@ Goes up p q = p < q
 Goes down p q = q < p
 Goes still p q = p ≡ q
 
-pub way : (p q : ℕ) → (w : Way) × Goes w p q
+way : (p q : ℕ) → (w : Way) × Goes w p q
 way p q = elim (decLt p q) [ yes h ↦ (up, h) | no h ↦ elim (decLt q p) [ yes k ↦ (down, k) | no k ↦ (still, omega arith) ] ]
 
 abbrev pub moves : Way → Bool
@@ -138,19 +133,26 @@ module _ (k : ℕ) (l : Leg) (hp : Low k (l .p)) (hq : Low k (l .q)) where
 abbrev pub passed : Leg → ℤ → ℕ
 passed l c = min (factor l) (run l c)
 
-pub still-same : (l : Leg) → moving l ≡ false → l .p ≡ l .q
-still-same l h = go (way (shift k (l .p)) (shift k (l .q)) .0) (way (shift k (l .p)) (shift k (l .q)) .1)
-  where
-    k : ℕ
-    k = natAbs (l .p) + natAbs (l .q)
+-- whatever follows for a leg and two places told without a sign, follows
+pub told : (l : Leg) (c m : ℤ) {A : Type 0} → ((k : ℕ) → Low k (l .p) → Low k (l .q) → Low k c → Low k m → (w : Way) → Goes w (shift k (l .p)) (shift k (l .q)) → A) → A
+told l c m f =
+    let k : ℕ = natAbs (l .p) + natAbs (l .q) + natAbs c + natAbs m in
+    let w = way (shift k (l .p)) (shift k (l .q)) in
+    f k (low-abs k (l .p) (omega arith)) (low-abs k (l .q) (omega arith)) (low-abs k c (omega arith)) (low-abs k m (omega arith)) (w .0) (w .1)
 
-    lp : Low k (l .p)
-    lp = low-abs k (l .p) (omega arith)
+module _ (l : Leg) where
+  still-same′ : moving l ≡ false → (k : ℕ) → Low k (l .p) → Low k (l .q) → (w : Way) → Goes w (shift k (l .p)) (shift k (l .q)) → l .p ≡ l .q
+  still-same′ h k hp hq up g = off-or-on (moving l) (moving-by k l hp hq up g) h
+  still-same′ h k hp hq down g = off-or-on (moving l) (moving-by k l hp hq down g) h
+  still-same′ h k hp hq still g = same-shift k (l .p) (l .q) hp hq g
 
-    lq : Low k (l .q)
-    lq = low-abs k (l .q) (omega arith)
+  pub still-same : moving l ≡ false → l .p ≡ l .q
+  still-same h = told l (l .p) (l .p) (λ k hp hq hc hm. still-same′ h k hp hq)
 
-    go : (w : Way) → Goes w (shift k (l .p)) (shift k (l .q)) → l .p ≡ l .q
-    go up g = off-or-on (moving l) (moving-by k l lp lq up g) h
-    go down g = off-or-on (moving l) (moving-by k l lp lq down g) h
-    go still g = same-shift k (l .p) (l .q) lp lq g
+  factor-pos′ : (k : ℕ) → Low k (l .p) → Low k (l .q) → (w : Way) → Goes w (shift k (l .p)) (shift k (l .q)) → 0 < factor l
+  factor-pos′ k hp hq up g = omega (arith, factor-by k l hp hq up g)
+  factor-pos′ k hp hq down g = omega (arith, factor-by k l hp hq down g)
+  factor-pos′ k hp hq still g = omega (arith, factor-by k l hp hq still g)
+
+  pub factor-pos : 0 < factor l
+  factor-pos = told l (l .p) (l .p) (λ k hp hq hc hm. factor-pos′ k hp hq)
