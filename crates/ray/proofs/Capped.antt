@@ -3,14 +3,14 @@
 use Prim.Native.Nat.{ℕ, _-_, _*_, _≤_, _<_, min, max}
 use mathlib.Core.Path.{_≡_, refl, sym, ap, _∙_}
 use mathlib.Core.Bool.{Bool, true, false, cond}
-use native.Mathlib.Nat.{mul-assoc, mul-comm, mul-left-comm, one-mul, min-zero, min-le-left}
+use native.Mathlib.Nat.{mul-assoc, mul-comm, mul-left-comm, one-mul, mul-pos, min-zero, min-le-left}
 use native.Mathlib.Omega.{arith}
 use lib.IntN.{ℤ}
 use Rattle.axis.specs.Leg.{moving, factor, run, Slab, held, enters, leaves}
 use Rattle.ray.specs.declared.Ray.{Ray}
 use Rattle.ray.specs.Length.{Side, X, Y, Z, leg, dOf, rest, Volume, voxel, holds, start, stop, partOf}
 use Rattle.ray.proofs.Through.{Rises, max-rises, min-rises, max-rises-3, min-rises-3, min-cap-rises, times-rises}
-use Rattle.ray.proofs.Way.{passed}
+use Rattle.ray.proofs.Way.{passed, factor-pos}
 
 -- α times D of the place c on a side, at most D
 unfoldable pub on : Ray → Side → ℤ → ℕ
@@ -37,6 +37,14 @@ pub d-side : (r : Ray) (s : Side) → dOf r ≡ factor (leg r s) * rest r s
 d-side r X = refl
 d-side r Y = mul-left-comm (factor (leg r X)) (factor (leg r Y)) (factor (leg r Z))
 d-side r Z = simp (mul-assoc, mul-comm)
+
+pub rest-pos : (r : Ray) (s : Side) → 0 < rest r s
+rest-pos r X = mul-pos (factor-pos (leg r Y)) (factor-pos (leg r Z))
+rest-pos r Y = mul-pos (factor-pos (leg r X)) (factor-pos (leg r Z))
+rest-pos r Z = mul-pos (factor-pos (leg r X)) (factor-pos (leg r Y))
+
+pub d-pos : (r : Ray) → 0 < dOf r
+d-pos r = mul-pos (factor-pos (leg r X)) (rest-pos r X)
 
 cap-in : (t : Bool) (d e x y : ℕ) → min d (cond t (min x y * e) 0) ≡ cond t (min (min d (x * e)) (min d (y * e))) 0
 cap-in true d e x y = sym (min-rises (λ z. min d (z * e)) (λ a b l. min-cap-rises d (a * e) (b * e) (times-rises e a b l)) x y)

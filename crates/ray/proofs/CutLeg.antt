@@ -34,21 +34,26 @@ cap-cap a f u h = omega arith
 cap-rest : (a b f u : ℕ) → a + b ≡ f → min b (u - a) ≡ min f u - a
 cap-rest a b f u e = omega arith
 
--- a leg cut at n/d of it
-module _ (n d : ℕ) (some : 0 < n) (less : n < d) (l : Leg) (m : ℤ) (e : pos d *ℤ (m -ℤ l .p) ≡ pos n *ℤ (l .q -ℤ l .p)) where
+-- m is at n/d of the leg, strictly between its ends where it moves
+pub record CutAt (n d : ℕ) (l : Leg) (m : ℤ) : Type 0 where
+  pub some : 0 < n
+  pub less : n < d
+  pub at : pos d *ℤ (m -ℤ l .p) ≡ pos n *ℤ (l .q -ℤ l .p)
+
+module _ {n d : ℕ} {l : Leg} {m : ℤ} (cut : CutAt n d l m) where
   module _ (k : ℕ) (hp : Low k (l .p)) (hq : Low k (l .q)) (hm : Low k m) where
     above′ : d * (shift k m - shift k (l .p)) ≡ n * (shift k (l .q) - shift k (l .p))
-    above′ = share-above k n d m (l .p) (l .q) (l .p) hm hp hq hp e
+    above′ = share-above k n d m (l .p) (l .q) (l .p) hm hp hq hp (cut .at)
 
     below′ : d * (shift k (l .p) - shift k m) ≡ n * (shift k (l .p) - shift k (l .q))
-    below′ = share-below k n d m (l .p) (l .q) (l .p) hm hp hq hp e
+    below′ = share-below k n d m (l .p) (l .q) (l .p) hm hp hq hp (cut .at)
 
     goes : (w : Way) → Goes w (shift k (l .p)) (shift k (l .q)) → Goes w (shift k (l .p)) (shift k m) × Goes w (shift k m) (shift k (l .q))
-    goes up g = let i = inner n d (shift k m - shift k (l .p)) (shift k (l .q) - shift k (l .p)) some less (omega arith) above′ in (omega arith, omega arith)
-    goes down g = let i = inner n d (shift k (l .p) - shift k m) (shift k (l .p) - shift k (l .q)) some less (omega arith) below′ in (omega arith, omega arith)
+    goes up g = let i = inner n d (shift k m - shift k (l .p)) (shift k (l .q) - shift k (l .p)) (cut .some) (cut .less) (omega arith) above′ in (omega arith, omega arith)
+    goes down g = let i = inner n d (shift k (l .p) - shift k m) (shift k (l .p) - shift k (l .q)) (cut .some) (cut .less) (omega arith) below′ in (omega arith, omega arith)
     goes still g =
-        let a : shift k m - shift k (l .p) ≡ 0 = outer n d (shift k m - shift k (l .p)) less (above′ ∙ ap (λ (x : ℕ). n * x) (omega arith)) in
-        let b : shift k (l .p) - shift k m ≡ 0 = outer n d (shift k (l .p) - shift k m) less (below′ ∙ ap (λ (x : ℕ). n * x) (omega arith)) in
+        let a : shift k m - shift k (l .p) ≡ 0 = outer n d (shift k m - shift k (l .p)) (cut .less) (above′ ∙ ap (λ (x : ℕ). n * x) (omega arith)) in
+        let b : shift k (l .p) - shift k m ≡ 0 = outer n d (shift k (l .p) - shift k m) (cut .less) (below′ ∙ ap (λ (x : ℕ). n * x) (omega arith)) in
         (omega arith, omega arith)
 
     moving-before′ : (w : Way) → Goes w (shift k (l .p)) (shift k (l .q)) → moving (before l m) ≡ moving l

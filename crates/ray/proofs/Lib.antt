@@ -15,3 +15,5 @@ pub mod Way
 pub mod Capped
 pub mod Turned
 pub mod CutLeg
+pub mod CutBox
+pub mod Cut
