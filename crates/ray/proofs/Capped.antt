@@ -82,6 +82,9 @@ module _ (r : Ray) where
   unfolding leave on
   cap-leave s t = cap-out (moving (leg r s)) (dOf r) (rest r s) (run (leg r s) (t .lo)) (run (leg r s) (t .hi)) (still-rest s)
 
+  pub leave-cap : (s : Side) (t : Slab) → leave r s t ≤ dOf r
+  leave-cap s t = rw (← cap-leave s t) (min-le-left (dOf r) (leaves (rest r s) (leg r s) t))
+
   pub begin-sides : (b : Side → Slab) → begin r b ≡ max (enter r X (b X)) (max (enter r Y (b Y)) (enter r Z (b Z)))
   begin-sides b =
       sym (max-rises-3 (min (dOf r)) (min-cap-rises (dOf r)) (enters (rest r X) (leg r X) (b X)) (enters (rest r Y) (leg r Y) (b Y)) (enters (rest r Z) (leg r Z) (b Z)))

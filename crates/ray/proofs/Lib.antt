@@ -17,3 +17,5 @@ pub mod Turned
 pub mod CutLeg
 pub mod CutBox
 pub mod Cut
+pub mod Fraction
+pub mod Formula

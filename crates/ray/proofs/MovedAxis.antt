@@ -16,7 +16,7 @@ use Rattle.axis.proofs.Flag.{lt-not-le}
 sign-sub : (a b : ℕ) → nonNeg (subℕ a b) ≡ leb b a
 sign-sub a b = elim (decLt a b) [ yes h ↦ rw (lt-ltb a b h, lt-leb b a h) | no h ↦ rw (le-ltb a b (omega arith), le-leb b a (omega arith)) ]
 
-le-sign : (a b : ℤ) → leZ a b ≡ nonNeg (b -ℤ a)
+pub le-sign : (a b : ℤ) → leZ a b ≡ nonNeg (b -ℤ a)
 le-sign (pos zero) (pos b) = leb·zero b
 le-sign (pos (suc a)) (pos b) = sym (sign-sub b (suc a))
 le-sign (pos zero) (negsuc b) = sym (sign-sub 0 (suc b) ∙ leb·suc-zero b)

@@ -29,7 +29,7 @@ abs-both (negsuc n) = omega arith
 pub neg-diff : (x y : ℤ) → negℤ (x -ℤ y) ≡ y -ℤ x
 neg-diff x y = negℤ-+ℤ x (negℤ y) ∙ +ℤ-comm (negℤ x) (negℤ (negℤ y)) ∙ ap (λ (z : ℤ). z -ℤ x) (negℤ-negℤ y)
 
-neg-none : (n : ℕ) → natural (negℤ (pos n)) ≡ 0
+pub neg-none : (n : ℕ) → natural (negℤ (pos n)) ≡ 0
 neg-none zero = refl
 neg-none (suc n) = refl
 
