@@ -19,3 +19,5 @@ pub mod CutBox
 pub mod Cut
 pub mod Fraction
 pub mod Formula
+pub mod Places
+pub mod Apart

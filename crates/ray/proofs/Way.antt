@@ -16,7 +16,7 @@ use Rattle.axis.proofs.Shift.{shift, Low, low-pos, shift-is, shift-order, above
 
 -- ---- whole numbers, told from a lower bound up
 
-low-abs : (k : ℕ) (z : ℤ) → natAbs z ≤ k → Low k z
+pub low-abs : (k : ℕ) (z : ℤ) → natAbs z ≤ k → Low k z
 low-abs k (pos n) h = low-pos k n
 low-abs (suc k) (negsuc n) h = le→leb n k (omega arith)
 low-abs zero (negsuc n) h = absurd (omega arith)
@@ -43,7 +43,7 @@ natural-times-neg d (pos (suc n)) = neg-none (d * suc n) ∙ sym (mul-zero d)
 natural-times-neg d (negsuc n) = ap natural (negℤ-negℤ (pos (d * suc n)))
 
 module _ (k : ℕ) (x y : ℤ) (hx : Low k x) (hy : Low k y) where
-  lt-shift : ltZ x y ≡ ltb (shift k x) (shift k y)
+  pub lt-shift : ltZ x y ≡ ltb (shift k x) (shift k y)
   lt-shift = lt-le x y ∙ ap not (shift-order k y x hy hx) ∙ sym (lt-not-le (shift k x) (shift k y))
 
   lt-yes : shift k x < shift k y → ltZ x y ≡ true
