@@ -21,3 +21,4 @@ pub mod Fraction
 pub mod Formula
 pub mod Places
 pub mod Apart
+pub mod TurnedList
