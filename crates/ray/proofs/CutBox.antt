@@ -172,11 +172,11 @@ module _ (r : Ray) (m : End) (between : Between r m) where
         (swap (passed (leg r s) c - factor (leg (near r m) s)) (rest (far r m) s) (factor (leg (far r m) s)) (rest r s)
         ∙ ap (λ (x : ℕ). x * (factor (leg (far r m) s) * rest (far r m) s)) (sub-times (passed (leg r s) c) (factor (leg (near r m) s)) (rest r s)))
 
-    up-to-pos : 0 < upTo
+    pub up-to-pos : 0 < upTo
     unfolding upTo
     up-to-pos = mul-pos (factor-pos (leg (near r m) o)) (rest-pos r o)
 
-    on-from-pos : 0 < onFrom
+    pub on-from-pos : 0 < onFrom
     unfolding onFrom
     on-from-pos = mul-pos (factor-pos (leg (far r m) o)) (rest-pos r o)
 

@@ -22,3 +22,5 @@ pub mod Formula
 pub mod Places
 pub mod Apart
 pub mod TurnedList
+pub mod Seam
+pub mod CutList

@@ -1,8 +1,7 @@
 -- Demand 3, a ray turned round: its list is the ray's list backwards, with equal parts. Assumes nothing.
 use Prim.Native.Nat.{ℕ, _<_}
 use mathlib.Core.Path.{_≡_, refl, sym, ap, _∙_}
-use mathlib.Core.List.{List, [], _∷_, _++_, map, map-append, reverse, reverse-cons, List·Memᴰ}
-use native.Mathlib.Omega.{arith}
+use mathlib.Core.List.{List, [], _∷_, _++_, map, reverse, reverse-cons, List·Memᴰ}
 use Rattle.ray.specs.declared.Ray.{Ray}
 use Rattle.ray.specs.Length.{Volume, count, voxel, partOf, listOf}
 use Rattle.ray.proofs.Rising.{mem-turned, turned-mem, rising-reverse}
