@@ -1,87 +1,24 @@
 -- Voxels that a ray meets follow one another: it leaves the one before it enters the other, or as it does. Of a volume it is only
 -- used that its planes do not fall. Assumes nothing.
-use Prim.Native.Nat.{ℕ, zero, suc, _+_, _-_, _*_, _≤_, _<_, min, max}
-use mathlib.Core.Path.{_≡_, refl, sym, ap, _∙_, subst}
+use Prim.Native.Nat.{ℕ, _+_, _*_, _≤_, _<_, min, max}
+use mathlib.Core.Path.{_≡_, refl, sym, ap, subst}
 use mathlib.Core.Bool.{Bool, true, false, _&&_, _||_, cond}
 use mathlib.Core.Logic.{_⊎_, inl, inr, ⊎-elim}
-use native.Mathlib.Nat.{min-le-left, min-le-right, le-max-left, le-max-right, le-trans, le-of-lt, lt-of-lt-of-le, lt-irrefl, mul-le-mul-right, add-zero}
+use native.Mathlib.Nat.{min-le-left, min-le-right, le-max-left, le-max-right, le-trans, le-of-lt, lt-of-lt-of-le, lt-irrefl}
 use native.Mathlib.Omega.{arith}
 use native.Mathlib.Decide.{decLt, ℕ-discrete}
-use lib.IntN.{ℤ, pos, natAbs, _+ℤ_, _-ℤ_}
+use lib.IntN.{ℤ}
 use lib.Signed.{leZ, ltZ}
-use borrow.Author.Tests.{ltb-true, leb-true, le-leb}
-use Rattle.axis.specs.declared.Axis.{Axis}
-use Rattle.axis.specs.Leg.{planes, moving, run, natural, Slab, held}
+use Rattle.axis.specs.Leg.{moving, run, Slab, held}
 use Rattle.axis.proofs.Flag.{and-left, and-right}
-use Rattle.axis.proofs.Shift.{shift, Low, shift-order, shift-add, low-add, above-shift}
-use Rattle.ray.specs.declared.Grid.{Grid}
 use Rattle.ray.specs.declared.Ray.{Ray}
-use Rattle.ray.specs.Length.{Side, X, Y, Z, leg, dOf, rest, Volume, volume, count, place, voxel, holds, start, stop, partOf}
+use Rattle.ray.specs.Length.{Side, X, Y, Z, leg, dOf, rest, Volume, count, place, voxel, holds, start, stop, partOf}
 use Rattle.ray.proofs.Through.{min-cap-rises, times-rises}
-use Rattle.ray.proofs.Way.{low-abs, lt-shift}
+use Rattle.ray.proofs.Told.{le-shift, lt-shift, level, natural-rises, natural-falls}
+use Rattle.ray.proofs.Planes.{Rise, rise-to}
 use Rattle.ray.proofs.Listing.{Apart, starts}
 use Rattle.ray.proofs.Places.{place-below, place-same}
 use Rattle.ray.proofs.Capped.{on, enter, leave, begin, begin-sides, stop-sides, part-voxel, Met, met}
-
--- ---- order
-
-module _ (k : ℕ) (x y : ℤ) (hx : Low k x) (hy : Low k y) where
-  le-shift : leZ x y ≡ true → shift k x ≤ shift k y
-  le-shift h = leb-true (shift k x) (shift k y) (sym (shift-order k x y hx hy) ∙ h)
-
-  shift-le : shift k x ≤ shift k y → leZ x y ≡ true
-  shift-le h = shift-order k x y hx hy ∙ le-leb (shift k x) (shift k y) h
-
-  lt-shift′ : ltZ x y ≡ true → shift k x < shift k y
-  lt-shift′ h = ltb-true (shift k x) (shift k y) (sym (lt-shift k x y hx hy) ∙ h)
-
--- three whole numbers, told from a lower bound of all up
-level : (x y z : ℤ) {A : Type 0} → ((k : ℕ) → Low k x → Low k y → Low k z → A) → A
-level x y z f =
-    let k : ℕ = natAbs x + natAbs y + natAbs z in
-    f k (low-abs k x (omega arith)) (low-abs k y (omega arith)) (low-abs k z (omega arith))
-
-le-through : (x y z : ℤ) → leZ x y ≡ true → leZ y z ≡ true → leZ x z ≡ true
-le-through x y z h h′ = level x y z (λ k hx hy hz. shift-le k x z hx hz (omega (arith, le-shift k x y hx hy h, le-shift k y z hy hz h′)))
-
-natural-rises : (x y z : ℤ) → leZ x y ≡ true → natural (x -ℤ z) ≤ natural (y -ℤ z)
-natural-rises x y z h = level x y z (λ k hx hy hz. omega (arith, above-shift k x z hx hz, above-shift k y z hy hz, le-shift k x y hx hy h))
-
-natural-falls : (x y z : ℤ) → leZ x y ≡ true → natural (z -ℤ y) ≤ natural (z -ℤ x)
-natural-falls x y z h = level x y z (λ k hx hy hz. omega (arith, above-shift k z x hz hx, above-shift k z y hz hy, le-shift k x y hx hy h))
-
-le-add : (z : ℤ) (i j : ℕ) → i ≤ j → leZ (z +ℤ pos i) (z +ℤ pos j) ≡ true
-le-add z i j h = level z z z (λ k hz hz′ hz″. shift-le k (z +ℤ pos i) (z +ℤ pos j) (low-add k z i hz) (low-add k z j hz) (omega (arith, shift-add k z i hz, shift-add k z j hz)))
-
--- ---- planes
-
-abbrev pub Rise : Volume → Type 0
-Rise v = (s : Side) (i : ℕ) → i < v s .n → leZ (v s .at i) (v s .at (i + 1)) ≡ true
-
--- those of every grid do
-pub grid-rise : (g : Grid) → Rise (volume g)
-grid-rise g s i h = go s
-  where
-    on-axis : (a : Axis) → leZ (planes a .at i) (planes a .at (i + 1)) ≡ true
-    on-axis a = le-add (a .b) (i * a .d) ((i + 1) * a .d) (mul-le-mul-right (a .d) (omega arith))
-
-    go : (s : Side) → leZ (volume g s .at i) (volume g s .at (i + 1)) ≡ true
-    go X = on-axis (g .x)
-    go Y = on-axis (g .y)
-    go Z = on-axis (g .z)
-
-module _ (v : Volume) (rise : Rise v) (s : Side) where
-  rise-by : (i k : ℕ) → i + k ≤ v s .n → leZ (v s .at i) (v s .at (i + k)) ≡ true
-  rise-by i zero h = rw (add-zero i) (le-same (v s .at i))
-    where
-      le-same : (z : ℤ) → leZ z z ≡ true
-      le-same z = level z z z (λ k hz hz′ hz″. shift-le k z z hz hz (omega arith))
-  rise-by i (suc k) h =
-      le-through (v s .at i) (v s .at (i + k)) (v s .at (i + suc k)) (rise-by i k (omega arith))
-      (subst (λ (j : ℕ). leZ (v s .at (i + k)) (v s .at j) ≡ true) (omega arith) (rise s (i + k) (omega arith)))
-
-  rise-to : (i j : ℕ) → i ≤ j → j ≤ v s .n → leZ (v s .at i) (v s .at j) ≡ true
-  rise-to i j h l = subst (λ (t : ℕ). leZ (v s .at i) (v s .at t) ≡ true) (omega arith) (rise-by i (j - i) (omega arith))
 
 -- ---- one side
 
@@ -102,7 +39,7 @@ module _ (r : Ray) (s : Side) where
     not-both : (p : ℤ) → (leZ (t .lo) p && ltZ p (t .hi)) ≡ true → (leZ (t′ .lo) p && ltZ p (t′ .hi)) ≡ true → ⊥
     not-both p a b = level p (t .hi) (t′ .lo) (λ k hp hi lo. omega (
       arith,
-      lt-shift′ k p (t .hi) hp hi (and-right (leZ (t .lo) p) (ltZ p (t .hi)) a),
+      lt-shift k p (t .hi) hp hi (and-right (leZ (t .lo) p) (ltZ p (t .hi)) a),
       le-shift k (t .hi) (t′ .lo) hi lo gap,
       le-shift k (t′ .lo) p lo hp (and-left (leZ (t′ .lo) p) (ltZ p (t′ .hi)) b),
     ))

@@ -9,7 +9,8 @@ use lib.Signed.{leZ, ltZ}
 use Rattle.axis.specs.Leg.{Leg, moving, factor, run, Slab, held}
 use Rattle.axis.proofs.Flag.{off-or-on}
 use Rattle.axis.proofs.Shift.{shift, Low}
-use Rattle.ray.proofs.Way.{share-above, share-below, Way, up, down, still, Goes, moving-by, factor-by, run-by, passed, told, still-same}
+use Rattle.ray.proofs.Told.{share-above, share-below}
+use Rattle.ray.proofs.Way.{Way, up, down, still, Goes, moving-by, factor-by, run-by, passed, told, still-same}
 
 -- the leg as far as m, and from m on
 abbrev pub before : Leg → ℤ → Leg

@@ -13,7 +13,8 @@ use Rattle.ray.specs.Length.{Side, leg, dOf, Volume, count, voxel, stop,
 use Rattle.ray.proofs.Rising.{Rising}
 use Rattle.ray.proofs.Listing.{Listed, starts, list-sound, list-whole, list-listed, list-is}
 use Rattle.ray.proofs.Capped.{part, part-voxel, d-pos, met}
-use Rattle.ray.proofs.Apart.{Rise, voxel-apart, starts-apart}
+use Rattle.ray.proofs.Planes.{Rise}
+use Rattle.ray.proofs.Apart.{voxel-apart, starts-apart}
 use Rattle.ray.proofs.CutBox.{Between, near, far, upTo, onFrom, up-to-pos, on-from-pos, parts, NearMet, near-met, FarMet, far-met}
 use Rattle.ray.proofs.Seam.{joined, joined-cases, joined-left, joined-right, joined-rising, Below}
 

@@ -14,38 +14,14 @@ use Rattle.ray.specs.declared.Ray.{Ray}
 use Rattle.ray.specs.Length.{Side, X, Y, Z, leg, dOf, rest, Volume, voxel, holds, stop, partOf}
 use Rattle.ray.proofs.Through.{min-rises, times-rises}
 use Rattle.ray.proofs.MovedAxis.{le-sign, lt-le}
-use Rattle.ray.proofs.Way.{neg-diff, factor-pos}
+use Rattle.ray.proofs.Told.{neg-diff}
+use Rattle.ray.proofs.Way.{factor-pos}
 use Rattle.ray.proofs.Capped.{on, on-passed, d-side, enter, leave, leave-cap, begin, begin-sides, stop-sides, part, part-voxel, part-held, part-not-held}
 use Rattle.ray.proofs.Fraction.{Fraction, lesser, greater, minus, whole, orZero, least, greatest, At, lesser-at, greater-at, Most1, lesser-most1, Least0, greater-least0, minus-at, Is, or-zero}
 
 -- α of the place c, (c - p) / (q - p) (000, equation 4), with no sign below the line
 abbrev pub α : Leg → ℤ → Fraction
 α l c = record { num = cond (ltZ (l .p) (l .q)) (c -ℤ l .p) (l .p -ℤ c); den = natAbs (l .q -ℤ l .p) }
-
-both-neg : (z : ℤ) (n : ℕ) → negℤ z *ℤ negℤ (pos n) ≡ pos (natAbs (negℤ (pos n))) *ℤ z
-both-neg z zero = *ℤ-zero (negℤ z) ∙ sym (zero-*ℤ z)
-both-neg (pos zero) (suc n) = zero-*ℤ (negsuc n) ∙ sym (*ℤ-zero (pos (suc n)))
-both-neg (pos (suc a)) (suc n) = ap pos (mul-comm (suc a) (suc n))
-both-neg (negsuc a) (suc n) = ap (λ (x : ℕ). negℤ (pos x)) (mul-comm (suc a) (suc n))
-
--- it is that: α times (q - p) is c - p
-pub α-is : (l : Leg) (c : ℤ) → moving l ≡ true → α l c .num *ℤ (l .q -ℤ l .p) ≡ pos (α l c .den) *ℤ (c -ℤ l .p)
-α-is l c m = go (ltZ (l .p) (l .q)) refl
-  where
-    -- x below y: the difference is a number without a sign
-    ahead : (x y : ℤ) → ltZ x y ≡ true → y -ℤ x ≡ pos (natAbs (y -ℤ x))
-    ahead x y h = positive (y -ℤ x) (ap nonNeg (neg-diff y x) ∙ sym (le-sign y x) ∙ not-true (leZ y x) (sym (lt-le x y) ∙ h))
-      where
-        positive : (z : ℤ) → nonNeg (negℤ z) ≡ false → z ≡ pos (natAbs z)
-        positive (pos n) e = refl
-        positive (negsuc n) e = absurd (true≢false e)
-
-    go : (t : Bool) → ltZ (l .p) (l .q) ≡ t → cond t (c -ℤ l .p) (l .p -ℤ c) *ℤ (l .q -ℤ l .p) ≡ pos (natAbs (l .q -ℤ l .p)) *ℤ (c -ℤ l .p)
-    go true h = ap (λ (z : ℤ). (c -ℤ l .p) *ℤ z) (ahead (l .p) (l .q) h) ∙ *ℤ-comm (c -ℤ l .p) (pos (natAbs (l .q -ℤ l .p)))
-    go false h =
-        let n : ℕ = natAbs (l .p -ℤ l .q) in
-        let e : l .q -ℤ l .p ≡ negℤ (pos n) = sym (neg-diff (l .p) (l .q)) ∙ ap negℤ (ahead (l .q) (l .p) (rw h at m)) in
-        ap₂ _*ℤ_ (sym (neg-diff c (l .p))) e ∙ both-neg (c -ℤ l .p) n ∙ ap (λ (z : ℤ). pos (natAbs z) *ℤ (c -ℤ l .p)) (sym e)
 
 -- of some axes the moving ones
 unfoldable pub movers : Ray → List Side → List Side
@@ -64,6 +40,33 @@ abbrev pub lengthIn : Ray → (Side → Slab) → Fraction
 lengthIn r b =
     let axes : List Side = movers r (X ∷ Y ∷ Z ∷ []) in
     cond (holds r b) (orZero (minus (least (whole 1) (map (greaterα r b) axes)) (greatest (whole 0) (map (lesserα r b) axes)))) (whole 0)
+
+-- ---- equation 4
+
+both-neg : (z : ℤ) (n : ℕ) → negℤ z *ℤ negℤ (pos n) ≡ pos (natAbs (negℤ (pos n))) *ℤ z
+both-neg z zero = *ℤ-zero (negℤ z) ∙ sym (zero-*ℤ z)
+both-neg (pos zero) (suc n) = zero-*ℤ (negsuc n) ∙ sym (*ℤ-zero (pos (suc n)))
+both-neg (pos (suc a)) (suc n) = ap pos (mul-comm (suc a) (suc n))
+both-neg (negsuc a) (suc n) = ap (λ (x : ℕ). negℤ (pos x)) (mul-comm (suc a) (suc n))
+
+-- α times (q - p) is c - p
+pub α-is : (l : Leg) (c : ℤ) → moving l ≡ true → α l c .num *ℤ (l .q -ℤ l .p) ≡ pos (α l c .den) *ℤ (c -ℤ l .p)
+α-is l c m = go (ltZ (l .p) (l .q)) refl
+  where
+    -- x below y: the difference is a number without a sign
+    ahead : (x y : ℤ) → ltZ x y ≡ true → y -ℤ x ≡ pos (natAbs (y -ℤ x))
+    ahead x y h = positive (y -ℤ x) (ap nonNeg (neg-diff y x) ∙ sym (le-sign y x) ∙ not-true (leZ y x) (sym (lt-le x y) ∙ h))
+      where
+        positive : (z : ℤ) → nonNeg (negℤ z) ≡ false → z ≡ pos (natAbs z)
+        positive (pos n) e = refl
+        positive (negsuc n) e = absurd (true≢false e)
+
+    go : (t : Bool) → ltZ (l .p) (l .q) ≡ t → cond t (c -ℤ l .p) (l .p -ℤ c) *ℤ (l .q -ℤ l .p) ≡ pos (natAbs (l .q -ℤ l .p)) *ℤ (c -ℤ l .p)
+    go true h = ap (λ (z : ℤ). (c -ℤ l .p) *ℤ z) (ahead (l .p) (l .q) h) ∙ *ℤ-comm (c -ℤ l .p) (pos (natAbs (l .q -ℤ l .p)))
+    go false h =
+        let n : ℕ = natAbs (l .p -ℤ l .q) in
+        let e : l .q -ℤ l .p ≡ negℤ (pos n) = sym (neg-diff (l .p) (l .q)) ∙ ap negℤ (ahead (l .q) (l .p) (rw h at m)) in
+        ap₂ _*ℤ_ (sym (neg-diff c (l .p))) e ∙ both-neg (c -ℤ l .p) n ∙ ap (λ (z : ℤ). pos (natAbs z) *ℤ (c -ℤ l .p)) (sym e)
 
 -- ---- in units of 1/D
 
@@ -109,13 +112,13 @@ module _ (r : Ray) where
         go p true h = lesser-at (dOf r) (greater-at (dOf r) (α-at s (b s .lo) h) (α-at s (b s .hi) h)) p
         go p false h = rw (min-eq-right (lowest-cap ss)) p
 
-    least-most1 : (ss : List Side) → Most1 (dOf r) (least (whole 1) (map (greaterα r b) (movers r ss)))
+    least-most1 : (ss : List Side) → Most1 (least (whole 1) (map (greaterα r b) (movers r ss)))
     unfolding least movers
     least-most1 [] = omega arith
     least-most1 (s ∷ ss) = go (least-most1 ss) (moving (leg r s))
       where
-        go : Most1 (dOf r) (least (whole 1) (map (greaterα r b) (movers r ss))) → (m : Bool) → Most1 (dOf r) (least (whole 1) (map (greaterα r b) (cond m (s ∷ movers r ss) (movers r ss))))
-        go p true = lesser-most1 (dOf r) (greaterα r b s) (least (whole 1) (map (greaterα r b) (movers r ss))) (least-at ss .den-pos) p
+        go : Most1 (least (whole 1) (map (greaterα r b) (movers r ss))) → (m : Bool) → Most1 (least (whole 1) (map (greaterα r b) (cond m (s ∷ movers r ss) (movers r ss))))
+        go p true = lesser-most1 (greaterα r b s) (least (whole 1) (map (greaterα r b) (movers r ss))) (least-at ss .den-pos) p
         go p false = p
 
     greatest-at : (ss : List Side) → At (dOf r) (greatest (whole 0) (map (lesserα r b) (movers r ss))) (highest ss)
@@ -127,13 +130,13 @@ module _ (r : Ray) where
         go p true h = greater-at (dOf r) (lesser-at (dOf r) (α-at s (b s .lo) h) (α-at s (b s .hi) h)) p
         go p false h = rw (zero-max (highest ss)) p
 
-    greatest-least0 : (ss : List Side) → Least0 (dOf r) (greatest (whole 0) (map (lesserα r b) (movers r ss)))
+    greatest-least0 : (ss : List Side) → Least0 (greatest (whole 0) (map (lesserα r b) (movers r ss)))
     unfolding greatest movers
     greatest-least0 [] = refl
     greatest-least0 (s ∷ ss) = go (greatest-least0 ss) (moving (leg r s))
       where
-        go : Least0 (dOf r) (greatest (whole 0) (map (lesserα r b) (movers r ss))) → (m : Bool) → Least0 (dOf r) (greatest (whole 0) (map (lesserα r b) (cond m (s ∷ movers r ss) (movers r ss))))
-        go p true = greater-least0 (dOf r) (lesserα r b s) (greatest (whole 0) (map (lesserα r b) (movers r ss))) p
+        go : Least0 (greatest (whole 0) (map (lesserα r b) (movers r ss))) → (m : Bool) → Least0 (greatest (whole 0) (map (lesserα r b) (cond m (s ∷ movers r ss) (movers r ss))))
+        go p true = greater-least0 (lesserα r b s) (greatest (whole 0) (map (lesserα r b) (movers r ss))) p
         go p false = p
 
     lowest-stop : lowest (X ∷ Y ∷ Z ∷ []) ≡ stop r b

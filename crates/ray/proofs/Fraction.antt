@@ -11,7 +11,7 @@ use borrow.Author.Tests.{leb-true, leb-false, le-leb, le-ltb}
 use Rattle.axis.specs.Leg.{natural}
 use Rattle.axis.proofs.Shift.{natural-diff}
 use Rattle.ray.proofs.Through.{min-rises, times-rises, sub-times}
-use Rattle.ray.proofs.Way.{neg-none}
+use Rattle.ray.proofs.Told.{neg-none}
 
 -- a denominator is above zero
 pub record Fraction : Type 0 where
@@ -84,6 +84,36 @@ module _ (x y : Fraction) where
   not-below : x ≤ᶠ y ≡ false → natural (y .num) * x .den ≤ natural (x .num) * y .den
   not-below h = rw (← natural-mul (x .num) (y .den), ← natural-mul (y .num) (x .den)) (gt-natural (x .num *ℤ pos (y .den)) (y .num *ℤ pos (x .den)) h)
 
+-- ---- at most 1, and at least 0
+
+abbrev pub Most1 : Fraction → Type 0
+Most1 x = natural (x .num) ≤ x .den
+
+most1-bare : (xd yd a b : ℕ) → 0 < yd → a * yd ≤ b * xd → b ≤ yd → a ≤ xd
+most1-bare xd yd a b h l k = le-of-mul-le-mul-right {m = a} {n = xd} {k = yd} (omega (arith, mul-le-mul-right {m = b} {n = yd} xd k, mul-comm xd yd)) h
+
+pub lesser-most1 : (x y : Fraction) → 0 < y .den → Most1 y → Most1 (lesser x y)
+lesser-most1 x y p h = go (x ≤ᶠ y) refl
+  where
+    go : (t : Bool) → x ≤ᶠ y ≡ t → Most1 (cond t x y)
+    go true e = most1-bare (x .den) (y .den) (natural (x .num)) (natural (y .num)) p (below x y e) h
+    go false e = h
+
+abbrev pub Least0 : Fraction → Type 0
+Least0 x = x .num ≡ pos (natural (x .num))
+
+pub greater-least0 : (x y : Fraction) → Least0 y → Least0 (greater x y)
+greater-least0 x y h = go (x ≤ᶠ y) refl
+  where
+    positive : (a c : ℤ) (n k : ℕ) → c ≡ pos (natural c) → leZ (a *ℤ pos n) (c *ℤ pos k) ≡ false → a ≡ pos (natural a)
+    positive (pos a) c n k e f = refl
+    positive (negsuc a) (pos c) n k e f = absurd (true≢false (sym (low-times a n (c * k)) ∙ f))
+    positive (negsuc a) (negsuc c) n k e f = absurd (pos-ne-negsuc 0 c (sym e))
+
+    go : (t : Bool) → x ≤ᶠ y ≡ t → Least0 (cond t y x)
+    go true e = h
+    go false e = positive (x .num) (y .num) (y .den) (x .den) h e
+
 -- ---- in units of 1/d
 
 module _ (d : ℕ) where
@@ -116,38 +146,6 @@ module _ (d : ℕ) where
       go : (t : Bool) → x ≤ᶠ y ≡ t → At (cond t y x) (max n m)
       go true h = rw (max-eq-right (order p q (below x y h))) q
       go false h = rw (max-eq-left (order q p (not-below x y h))) p
-
-  -- ---- at most 1, and at least 0
-
-  abbrev pub Most1 : Fraction → Type 0
-  Most1 x = natural (x .num) ≤ x .den
-
-  most1-bare : (xd yd a b : ℕ) → 0 < yd → a * yd ≤ b * xd → b ≤ yd → a ≤ xd
-  most1-bare xd yd a b h l k = le-of-mul-le-mul-right {m = a} {n = xd} {k = yd} (omega (arith, mul-le-mul-right {m = b} {n = yd} xd k, mul-comm xd yd)) h
-
-  pub lesser-most1 : (x y : Fraction) → 0 < y .den → Most1 y → Most1 (lesser x y)
-  lesser-most1 x y p h = go (x ≤ᶠ y) refl
-    where
-      go : (t : Bool) → x ≤ᶠ y ≡ t → Most1 (cond t x y)
-      go true e = most1-bare (x .den) (y .den) (natural (x .num)) (natural (y .num)) p (below x y e) h
-      go false e = h
-
-  abbrev pub Least0 : Fraction → Type 0
-  Least0 x = x .num ≡ pos (natural (x .num))
-
-  pub greater-least0 : (x y : Fraction) → Least0 y → Least0 (greater x y)
-  greater-least0 x y h = go (x ≤ᶠ y) refl
-    where
-      positive : (a c : ℤ) (n k : ℕ) → c ≡ pos (natural c) → leZ (a *ℤ pos n) (c *ℤ pos k) ≡ false → a ≡ pos (natural a)
-      positive (pos a) c n k e f = refl
-      positive (negsuc a) (pos c) n k e f = absurd (true≢false (sym (low-times a n (c * k)) ∙ f))
-      positive (negsuc a) (negsuc c) n k e f = absurd (pos-ne-negsuc 0 c (sym e))
-
-      go : (t : Bool) → x ≤ᶠ y ≡ t → Least0 (cond t y x)
-      go true e = h
-      go false e = positive (x .num) (y .num) (y .den) (x .den) h e
-
-  -- ---- the difference
 
   capped-gap : (t u w : ℕ) → t ≤ w → t - u ≡ t - min w u
   capped-gap t u w h = omega arith

@@ -11,6 +11,7 @@ pub mod Moved
 pub mod Weighted
 pub mod Through
 pub mod Down
+pub mod Told
 pub mod Way
 pub mod Capped
 pub mod Turned
@@ -19,6 +20,7 @@ pub mod CutBox
 pub mod Cut
 pub mod Fraction
 pub mod Formula
+pub mod Planes
 pub mod Places
 pub mod Apart
 pub mod TurnedList

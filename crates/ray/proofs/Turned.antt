@@ -17,7 +17,8 @@ use Rattle.ray.specs.Length.{Side, X, Y, Z, leg, dOf, rest, squaredOf, V
 use Rattle.ray.proofs.Total.{total-same}
 use Rattle.ray.proofs.Through.{max-falls, min-falls, max-falls-3, min-falls-3, sub-times}
 use Rattle.ray.proofs.Down.{down-falls, gap-down, leb-down, later, crossing-down}
-use Rattle.ray.proofs.Way.{neg-diff, Way, up, down, still, Goes, moving-by, factor-by, run-by, passed, told, still-same}
+use Rattle.ray.proofs.Told.{neg-diff}
+use Rattle.ray.proofs.Way.{Way, up, down, still, Goes, moving-by, factor-by, run-by, passed, told, still-same}
 use Rattle.ray.proofs.Capped.{on, on-passed, d-side, enter, leave, begin, begin-sides, stop-sides, stop-cap, part, part-voxel, Met, met}
 
 -- the leg from q to p

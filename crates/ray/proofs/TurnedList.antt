@@ -2,13 +2,15 @@
 use Prim.Native.Nat.{ℕ, _<_}
 use mathlib.Core.Path.{_≡_, refl, sym, ap, _∙_}
 use mathlib.Core.List.{List, [], _∷_, _++_, map, reverse, reverse-cons, List·Memᴰ}
+use Rattle.ray.specs.declared.Grid.{Grid}
 use Rattle.ray.specs.declared.Ray.{Ray}
-use Rattle.ray.specs.Length.{Volume, count, voxel, partOf, listOf}
+use Rattle.ray.specs.Length.{dOf, squaredOf, Volume, volume, count, voxel, partOf, spanOf, listOf, sumOf, crossedOf}
 use Rattle.ray.proofs.Rising.{mem-turned, turned-mem, rising-reverse}
 use Rattle.ray.proofs.Listing.{Listed, starts, list-sound, list-whole, list-listed, list-is, map-snoc}
 use Rattle.ray.proofs.Capped.{part-voxel}
-use Rattle.ray.proofs.Apart.{Rise, follows, starts-apart}
-use Rattle.ray.proofs.Turned.{turned, voxel-turned, order-turned}
+use Rattle.ray.proofs.Planes.{Rise, grid-rise}
+use Rattle.ray.proofs.Apart.{follows, starts-apart}
+use Rattle.ray.proofs.Turned.{turned, d-turned, voxel-turned, order-turned, span-turned, crossed-turned, sum-turned, squared-turned}
 
 map-same : (f g : ℕ → ℕ) → ((m : ℕ) → f m ≡ g m) → (ms : List ℕ) → map f ms ≡ map g ms
 map-same f g e [] = refl
@@ -43,3 +45,28 @@ module _ (v : Volume) (rise : Rise v) (r : Ray) where
       ap (map (partOf v (turned r))) list-turned
       ∙ map-same (partOf v (turned r)) (partOf v r) (voxel-turned v r) (reverse (listOf v r))
       ∙ map-reverse (partOf v r) (listOf v r)
+
+-- All of it: the list backwards with equal parts over the same D, equal span, planes crossed, sum and squared length.
+pub record Turns (v : Volume) (r : Ray) : Type 0 where
+  pub voxels : listOf v (turned r) ≡ reverse (listOf v r)
+  pub parts : map (partOf v (turned r)) (listOf v (turned r)) ≡ reverse (map (partOf v r) (listOf v r))
+  pub d : dOf (turned r) ≡ dOf r
+  pub span : spanOf v (turned r) ≡ spanOf v r
+  pub crossed : crossedOf v (turned r) ≡ crossedOf v r
+  pub sum : (densities : List ℕ) → sumOf v (turned r) densities ≡ sumOf v r densities
+  pub squared : squaredOf (turned r) ≡ squaredOf r
+
+pub turns : (v : Volume) → Rise v → (r : Ray) → Turns v r
+turns v rise r = record {
+  voxels = list-turned v rise r;
+  parts = parts-turned v rise r;
+  d = d-turned r;
+  span = span-turned v r;
+  crossed = crossed-turned v r;
+  sum = sum-turned v r;
+  squared = squared-turned r;
+}
+
+-- for every grid and every ray, accepted or not
+pub grid-turns : (g : Grid) (r : Ray) → Turns (volume g) r
+grid-turns g r = turns (volume g) (grid-rise g) r

@@ -1,88 +1,14 @@
 -- One leg of a ray in numbers without a sign: it goes up, down or not at all. Assumes nothing.
-use Prim.Native.Nat.{ℕ, zero, suc, _+_, _-_, _*_, _≤_, _<_, min}
-use mathlib.Core.Path.{_≡_, refl, sym, ap, _∙_}
-use mathlib.Core.Bool.{Bool, true, false, not}
-use native.Mathlib.Nat.{mul-zero}
+use Prim.Native.Nat.{ℕ, _+_, _-_, _<_, min}
+use mathlib.Core.Path.{_≡_}
+use mathlib.Core.Bool.{Bool, true, false}
 use native.Mathlib.Omega.{arith}
 use native.Mathlib.Decide.{decLt}
-use lib.IntN.{ℤ, pos, negsuc, negℤ, natAbs, _-ℤ_, _*ℤ_, negℤ-+ℤ, negℤ-negℤ, +ℤ-comm, +ℤ-negℤ-cancel}
-use lib.Signed.{ltZ}
-use lib.Dec.{ltb, le→leb}
-use borrow.Author.Tests.{le-ltb, lt-ltb}
-use Rattle.axis.specs.Leg.{Leg, moving, factor, natural, run}
-use Rattle.axis.proofs.Flag.{lt-not-le, off-or-on}
-use Rattle.ray.proofs.MovedAxis.{lt-le}
-use Rattle.axis.proofs.Shift.{shift, Low, low-pos, shift-is, shift-order, above-shift}
-
--- ---- whole numbers, told from a lower bound up
-
-pub low-abs : (k : ℕ) (z : ℤ) → natAbs z ≤ k → Low k z
-low-abs k (pos n) h = low-pos k n
-low-abs (suc k) (negsuc n) h = le→leb n k (omega arith)
-low-abs zero (negsuc n) h = absurd (omega arith)
-
-abs-both : (z : ℤ) → natAbs z ≡ natural z + natural (negℤ z)
-abs-both (pos zero) = refl
-abs-both (pos (suc n)) = omega arith
-abs-both (negsuc n) = omega arith
-
-pub neg-diff : (x y : ℤ) → negℤ (x -ℤ y) ≡ y -ℤ x
-neg-diff x y = negℤ-+ℤ x (negℤ y) ∙ +ℤ-comm (negℤ x) (negℤ (negℤ y)) ∙ ap (λ (z : ℤ). z -ℤ x) (negℤ-negℤ y)
-
-pub neg-none : (n : ℕ) → natural (negℤ (pos n)) ≡ 0
-neg-none zero = refl
-neg-none (suc n) = refl
-
-natural-times : (d : ℕ) (z : ℤ) → natural (pos d *ℤ z) ≡ d * natural z
-natural-times d (pos n) = refl
-natural-times d (negsuc n) = neg-none (d * suc n) ∙ sym (mul-zero d)
-
-natural-times-neg : (d : ℕ) (z : ℤ) → natural (negℤ (pos d *ℤ z)) ≡ d * natural (negℤ z)
-natural-times-neg d (pos zero) = neg-none (d * 0) ∙ sym (mul-zero d)
-natural-times-neg d (pos (suc n)) = neg-none (d * suc n) ∙ sym (mul-zero d)
-natural-times-neg d (negsuc n) = ap natural (negℤ-negℤ (pos (d * suc n)))
-
-module _ (k : ℕ) (x y : ℤ) (hx : Low k x) (hy : Low k y) where
-  pub lt-shift : ltZ x y ≡ ltb (shift k x) (shift k y)
-  lt-shift = lt-le x y ∙ ap not (shift-order k y x hy hx) ∙ sym (lt-not-le (shift k x) (shift k y))
-
-  lt-yes : shift k x < shift k y → ltZ x y ≡ true
-  lt-yes h = lt-shift ∙ lt-ltb _ _ h
-
-  lt-no : shift k y ≤ shift k x → ltZ x y ≡ false
-  lt-no h = lt-shift ∙ le-ltb _ _ h
-
-  gap-shift : natAbs (x -ℤ y) ≡ shift k x - shift k y + (shift k y - shift k x)
-  gap-shift =
-      let a : natural (x -ℤ y) ≡ shift k x - shift k y = above-shift k x y hx hy in
-      let b : natural (negℤ (x -ℤ y)) ≡ shift k y - shift k x = ap natural (neg-diff x y) ∙ above-shift k y x hy hx in
-      omega (arith, abs-both (x -ℤ y))
-
-  same-shift : shift k x ≡ shift k y → x ≡ y
-  same-shift e =
-      sym (+ℤ-negℤ-cancel x (pos k))
-      ∙ ap (λ (z : ℤ). z -ℤ pos k) (shift-is k x hx ∙ ap pos e ∙ sym (shift-is k y hy))
-      ∙ +ℤ-negℤ-cancel y (pos k)
-
--- what is n/d of a difference has n/d of its part above 0 and of that below
-module _ (k n d : ℕ) (x y x′ y′ : ℤ) (hx : Low k x) (hy : Low k y) (hx′ : Low k x′) (hy′ : Low k y′) (e : pos d *ℤ (x -ℤ y) ≡ pos n *ℤ (x′ -ℤ y′)) where
-  pub share-above : d * (shift k x - shift k y) ≡ n * (shift k x′ - shift k y′)
-  share-above =
-      ap (λ (t : ℕ). d * t) (sym (above-shift k x y hx hy))
-      ∙ sym (natural-times d (x -ℤ y))
-      ∙ ap natural e
-      ∙ natural-times n (x′ -ℤ y′)
-      ∙ ap (λ (t : ℕ). n * t) (above-shift k x′ y′ hx′ hy′)
-
-  pub share-below : d * (shift k y - shift k x) ≡ n * (shift k y′ - shift k x′)
-  share-below =
-      ap (λ (t : ℕ). d * t) (sym (ap natural (neg-diff x y) ∙ above-shift k y x hy hx))
-      ∙ sym (natural-times-neg d (x -ℤ y))
-      ∙ ap (λ (z : ℤ). natural (negℤ z)) e
-      ∙ natural-times-neg n (x′ -ℤ y′)
-      ∙ ap (λ (t : ℕ). n * t) (ap natural (neg-diff x′ y′) ∙ above-shift k y′ x′ hy′ hx′)
-
--- ---- the three ways
+use lib.IntN.{ℤ, natAbs}
+use Rattle.axis.specs.Leg.{Leg, moving, factor, run}
+use Rattle.axis.proofs.Flag.{off-or-on}
+use Rattle.ray.proofs.Told.{low-abs, lt-yes, lt-no, gap-shift, same-shift}
+use Rattle.axis.proofs.Shift.{shift, Low, above-shift}
 
 pub data Way : Type 0 where
   up : Way
