@@ -71,9 +71,6 @@ module _ (r : Ray) where
   pub stop-cap : (b : Side → Slab) → stop r b ≤ dOf r
   stop-cap b = min-le-left (dOf r) _
 
-  pub begin-cap : (b : Side → Slab) → begin r b ≤ dOf r
-  begin-cap b = min-le-left (dOf r) _
-
   cap-enter : (s : Side) (t : Slab) → min (dOf r) (enters (rest r s) (leg r s) t) ≡ enter r s t
   unfolding enter on
   cap-enter s t = cap-in (moving (leg r s)) (dOf r) (rest r s) (run (leg r s) (t .lo)) (run (leg r s) (t .hi))

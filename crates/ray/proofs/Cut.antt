@@ -90,7 +90,7 @@ module _ (r : Ray) (m : End) (between : Between r m) where
       pub voxel-cut : (w : ℕ)
           → partOf v r w * difference r s * (dOf (near r m) * dOf (far r m))
           ≡ (difference (near r m) s * partOf v (near r m) w * dOf (far r m) + difference (far r m) s * partOf v (far r m) w * dOf (near r m)) * dOf r
-      voxel-cut w = shown (difference r s) (dOf (near r m)) (dOf (far r m)) (difference (near r m) s) (difference (far r m) s) (dOf r) _ _ _ (voxel-weights w)
+      voxel-cut w = rw (part-voxel v r w, part-voxel v (near r m) w, part-voxel v (far r m) w) (part-cut (voxel v w))
 
       -- And the weighted sum over D is the pieces' sums over their D, weighted in the same way.
       pub sum-cut : (densities : List ℕ)

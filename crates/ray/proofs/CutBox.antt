@@ -76,7 +76,7 @@ far-bare c k b e bf ef d hk h kb ke =
     (omega arith, omega arith)
 
 module _ (r : Ray) (m : End) (between : Between r m) where
-  cut : (s : Side) → CutAt (between .n) (between .d) (leg r s) (coordinate m s)
+  pub cut : (s : Side) → CutAt (between .n) (between .d) (leg r s) (coordinate m s)
   cut s = record { some = between .some; less = between .less; at = between .at s }
 
   leg-near : (s : Side) → leg (near r m) s ≡ before (leg r s) (coordinate m s)

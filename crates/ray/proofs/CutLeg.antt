@@ -2,6 +2,7 @@
 use Prim.Native.Nat.{ℕ, _+_, _-_, _*_, _≤_, _<_, min}
 use mathlib.Core.Path.{_≡_, refl, sym, ap, _∙_}
 use mathlib.Core.Bool.{Bool, true, false, _&&_, _||_}
+use mathlib.Core.Logic.{_⊎_, inl, inr}
 use native.Mathlib.Nat.{mul-zero, mul-pos, mul-lt-mul-of-pos-right, lt-of-mul-lt-mul-left, eq-of-mul-eq-mul-left}
 use native.Mathlib.Omega.{arith}
 use lib.IntN.{ℤ, pos, _-ℤ_, _*ℤ_}
@@ -9,7 +10,7 @@ use lib.Signed.{leZ, ltZ}
 use Rattle.axis.specs.Leg.{Leg, moving, factor, run, Slab, held}
 use Rattle.axis.proofs.Flag.{off-or-on}
 use Rattle.axis.proofs.Shift.{shift, Low}
-use Rattle.ray.proofs.Told.{share-above, share-below}
+use Rattle.ray.proofs.Told.{shift-le, share-above, share-below}
 use Rattle.ray.proofs.Way.{Way, up, down, still, Goes, moving-by, factor-by, run-by, passed, told, still-same}
 
 -- the leg as far as m, and from m on
@@ -86,6 +87,16 @@ module _ {n d : ℕ} {l : Leg} {m : ℤ} (cut : CutAt n d l m) where
             let i = goes down g in
             omega (arith, factor-by k (before l m) hp hm down (i .0), run-by k (after l m) hm hq c hc down (i .1), run-by k l hp hq c hc down g)
         run-after′ still g = off-or-on (moving l) moved (moving-by k l hp hq still g)
+
+  -- m lies between the ends, whichever is the lower
+  ordered′ : (k : ℕ) → Low k (l .p) → Low k (l .q) → Low k m → (w : Way) → Goes w (shift k (l .p)) (shift k (l .q))
+      → ((leZ (l .p) m ≡ true) × (leZ m (l .q) ≡ true)) ⊎ ((leZ (l .q) m ≡ true) × (leZ m (l .p) ≡ true))
+  ordered′ k hp hq hm up g = let i = goes k hp hq hm up g in inl (shift-le k (l .p) m hp hm (omega arith), shift-le k m (l .q) hm hq (omega arith))
+  ordered′ k hp hq hm down g = let i = goes k hp hq hm down g in inr (shift-le k (l .q) m hq hm (omega arith), shift-le k m (l .p) hm hp (omega arith))
+  ordered′ k hp hq hm still g = let i = goes k hp hq hm still g in inl (shift-le k (l .p) m hp hm (omega arith), shift-le k m (l .q) hm hq (omega arith))
+
+  pub ordered : ((leZ (l .p) m ≡ true) × (leZ m (l .q) ≡ true)) ⊎ ((leZ (l .q) m ≡ true) × (leZ m (l .p) ≡ true))
+  ordered = told l m m (λ k hp hq hm hm′. ordered′ k hp hq hm)
 
   pub moving-before : moving (before l m) ≡ moving l
   moving-before = told l m m (λ k hp hq hm hm′. moving-before′ k hp hq hm)

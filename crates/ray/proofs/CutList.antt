@@ -6,16 +6,22 @@ use mathlib.Core.List.{List, [], _∷_, List·Memᴰ, List·Memᴰ·head, List·
 use mathlib.Core.Logic.{_⊎_, inl, inr, ⊎-elim}
 use native.Mathlib.Nat.{zero-mul, mul-pos, mul-lt-mul-of-pos-right, lt-of-mul-lt-mul-right}
 use native.Mathlib.Omega.{arith}
+use native.Mathlib.Decide.{decLt}
 use Rattle.axis.specs.Leg.{moving}
+use Rattle.axis.specs.Codes.{Limits, first}
+use Rattle.ray.specs.declared.Grid.{Grid}
 use Rattle.ray.specs.declared.End.{End}
 use Rattle.ray.specs.declared.Ray.{Ray}
-use Rattle.ray.specs.Length.{Side, leg, dOf, Volume, count, voxel, stop, partOf, listOf}
+use Rattle.ray.specs.Length.{Side, leg, dOf, Volume, volume, count, voxel, stop, partOf, listOf, sumOf}
+use Rattle.ray.specs.Codes.{endRows}
 use Rattle.ray.proofs.Rising.{Rising}
 use Rattle.ray.proofs.Listing.{Listed, starts, list-sound, list-whole, list-listed, list-is}
 use Rattle.ray.proofs.Capped.{part, part-voxel, d-pos, met}
-use Rattle.ray.proofs.Planes.{Rise}
+use Rattle.ray.proofs.Planes.{Rise, grid-rise}
 use Rattle.ray.proofs.Apart.{voxel-apart, starts-apart}
 use Rattle.ray.proofs.CutBox.{Between, near, far, upTo, onFrom, up-to-pos, on-from-pos, parts, NearMet, near-met, FarMet, far-met}
+use Rattle.ray.proofs.Cut.{difference, differences, voxel-cut, sum-cut, same-quotient, same-quotient-far}
+use Rattle.ray.proofs.Ends.{moves-on}
 use Rattle.ray.proofs.Seam.{joined, joined-cases, joined-left, joined-right, joined-rising, Below}
 
 rising-as : (f g : ℕ → ℕ) (xs : List ℕ) → ((a b : ℕ) → List·Memᴰ a xs → List·Memᴰ b xs → f a < f b → g a < g b) → Rising f xs → Rising g xs
@@ -30,6 +36,9 @@ some-piece p k (suc pn) c df pf e dn hp hk h = inl (omega arith)
 some-piece p k zero c df (suc pf) e dn hp hk h = inr (omega arith)
 some-piece p k zero c df zero e dn hp hk h =
     absurd (omega (arith, mul-pos {m = p} {n = k} hp hk, ap (λ (x : ℕ). x * df) (zero-mul c), zero-mul df, ap (λ (x : ℕ). x * dn) (zero-mul e), zero-mul dn))
+
+absent : (v : Volume) (r : Ray) (w : ℕ) → w < count v → (List·Memᴰ w (listOf v r) → ⊥) → partOf v r w ≡ 0
+absent v r w h out = elim (decLt 0 (partOf v r w)) [ yes p ↦ absurd (out (list-whole v r w h p)) | no p ↦ omega arith ]
 
 scaled-order : (a b c t u d : ℕ) → 0 < c → a * c ≡ t * d → b * c ≡ u * d → a < b → t < u
 scaled-order a b c t u d hc ha hb l = lt-of-mul-lt-mul-right d (omega (arith, mul-lt-mul-of-pos-right {m = a} {n = b} {k = c} l hc))
@@ -100,3 +109,36 @@ module _ (v : Volume) (rise : Rise v) (r : Ray) (m : End) (between : Between r m
   -- same voxel.
   pub list-cut : listOf v r ≡ joined (listOf v (near r m)) (listOf v (far r m))
   list-cut = sym (list-is v r (starts-apart v rise r) (joined (listOf v (near r m)) (listOf v (far r m))) pieces)
+
+-- All of it. PM/PQ and MQ/PQ are the quotients of the coordinate differences, the same on every moving axis, and make up 1. Weighted
+-- by them a voxel's parts in the pieces, each over the piece's own D, make up its part over D; a piece that does not list the voxel has
+-- part 0 in it. The weighted sum over D likewise.
+pub record Cuts (v : Volume) (r : Ray) (m : End) : Type 0 where
+  pub voxels : listOf v r ≡ joined (listOf v (near r m)) (listOf v (far r m))
+  pub differences : (s : Side) → moving (leg r s) ≡ true → difference (near r m) s + difference (far r m) s ≡ difference r s
+  pub quotient : (s t : Side) → moving (leg r s) ≡ true → moving (leg r t) ≡ true → difference (near r m) s * difference r t ≡ difference (near r m) t * difference r s
+  pub quotient-far : (s t : Side) → moving (leg r s) ≡ true → moving (leg r t) ≡ true → difference (far r m) s * difference r t ≡ difference (far r m) t * difference r s
+  pub part : (s : Side) → moving (leg r s) ≡ true → (w : ℕ)
+      → partOf v r w * difference r s * (dOf (near r m) * dOf (far r m))
+      ≡ (difference (near r m) s * partOf v (near r m) w * dOf (far r m) + difference (far r m) s * partOf v (far r m) w * dOf (near r m)) * dOf r
+  pub near-absent : (w : ℕ) → w < count v → (List·Memᴰ w (listOf v (near r m)) → ⊥) → partOf v (near r m) w ≡ 0
+  pub far-absent : (w : ℕ) → w < count v → (List·Memᴰ w (listOf v (far r m)) → ⊥) → partOf v (far r m) w ≡ 0
+  pub sum : (s : Side) → moving (leg r s) ≡ true → (densities : List ℕ)
+      → sumOf v r densities * difference r s * (dOf (near r m) * dOf (far r m))
+      ≡ (difference (near r m) s * sumOf v (near r m) densities * dOf (far r m) + difference (far r m) s * sumOf v (far r m) densities * dOf (near r m)) * dOf r
+
+pub cuts : (v : Volume) → Rise v → (r : Ray) (m : End) → Between r m → (o : Side) → moving (leg r o) ≡ true → Cuts v r m
+cuts v rise r m between o moves = record {
+  voxels = list-cut v rise r m between o moves;
+  differences = differences r m between;
+  quotient = same-quotient r m between;
+  quotient-far = same-quotient-far r m between;
+  part = λ s h. voxel-cut r m between s h v;
+  near-absent = absent v (near r m);
+  far-absent = absent v (far r m);
+  sum = λ s h. sum-cut r m between s h v;
+}
+
+-- for every grid and every ray whose ends are accepted; so are then the ends of its pieces (`ends-near`, `ends-far`)
+pub grid-cuts : (lim : Limits) (g : Grid) (r : Ray) (m : End) → first (endRows lim r) ≡ 0 → Between r m → Cuts (volume g) r m
+grid-cuts lim g r m accepted between = let o = moves-on lim r accepted in cuts (volume g) (grid-rise g) r m between (o .0) (o .1)

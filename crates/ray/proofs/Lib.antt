@@ -25,4 +25,6 @@ pub mod Places
 pub mod Apart
 pub mod TurnedList
 pub mod Seam
+pub mod Ends
 pub mod CutList
+pub mod CutBench

@@ -25,7 +25,7 @@ use Rattle.ray.proofs.Capped.{on, on-passed, d-side, enter, leave, begi
 abbrev back : Leg → Leg
 back l = record { p = l .q; q = l .p }
 
-or-comm : (a b : Bool) → (a || b) ≡ (b || a)
+pub or-comm : (a b : Bool) → (a || b) ≡ (b || a)
 or-comm true true = refl
 or-comm true false = refl
 or-comm false true = refl
@@ -79,7 +79,7 @@ module _ (r : Ray) where
   leg-turned Y = refl
   leg-turned Z = refl
 
-  moving-turned : (s : Side) → moving (leg (turned r) s) ≡ moving (leg r s)
+  pub moving-turned : (s : Side) → moving (leg (turned r) s) ≡ moving (leg r s)
   moving-turned s = ap moving (leg-turned s) ∙ moving-back (leg r s)
 
   factor-turned : (s : Side) → factor (leg (turned r) s) ≡ factor (leg r s)
