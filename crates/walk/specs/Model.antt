@@ -1,8 +1,10 @@
 -- The walk as a function on numbers, with nothing of the geometry: what the code does, turn by turn. Definitions only. Assumes nothing.
 use Prim.Native.Nat.{ℕ, zero, suc, _+_, _-_, _^_, _%_, _≤_, _<_, min}
 use mathlib.Core.Bool.{cond}
-use mathlib.Core.List.{List, [], _∷_}
+use mathlib.Core.List.{List, [], _∷_, map}
+use mathlib.Core.Path.{_≡_}
 use lib.Dec.{eqb, leb}
+use lib.ListN.{length, take, drop}
 use Rattle.walk.specs.declared.steps.Walk.{Walk}
 use Rattle.walk.specs.declared.steps.Strides.{Strides}
 
@@ -34,7 +36,13 @@ pub record Entry : Type 0 where
   pub part : ℕ
 
 abbrev pub entry : Walk → ℕ → Entry
-entry w end = record { voxel = w .v; part = end - w .t }
+entry w end = record { voxel = w .v % 2 ^ 32; part = end - w .t }
+
+abbrev pub voxels : List Entry → List ℕ
+voxels es = map (λ (e : Entry). e .voxel) es
+
+abbrev pub parts : List Entry → List ℕ
+parts es = map (λ (e : Entry). e .part) es
 
 -- the entries of a walk up to the tick `to`, in at most `turns` turns
 unfoldable pub go : ℕ → Strides → ℕ → Walk → List Entry
@@ -59,3 +67,11 @@ pub record Forward (s : Strides) (to : ℕ) (w : Walk) : Type 0 where
   pub z-size : w .z ≤ 2 ^ 61
   pub later : w .t < soonest w
   pub before : w .t < to
+
+-- the first r places of two lists hold the entries, and what stood behind them stands there still
+pub record Filled (es : List Entry) (r : ℕ) (vs ps vs₀ ps₀ : List ℕ) : Type 0 where
+  pub number : r ≡ length es
+  pub voxels-are : take r vs ≡ voxels es
+  pub parts-are : take r ps ≡ parts es
+  pub voxels-rest : drop r vs ≡ drop r vs₀
+  pub parts-rest : drop r ps ≡ drop r ps₀

@@ -1,8 +1,9 @@
 -- A scene read as a volume and a ray of crate ray, and what its sizes may be. Definitions only. Assumes nothing.
 use Prim.Native.Nat.{ℕ, _+_, _*_, _^_, _≤_, _<_}
 use mathlib.Core.Path.{_≡_}
+use mathlib.Core.Bool.{true}
 use lib.IntN.{pos}
-use Rattle.axis.specs.Leg.{Planes, Leg, Slab}
+use Rattle.axis.specs.Leg.{Planes, Leg, Slab, held, enters, leaves}
 use Rattle.ray.specs.declared.Ray.{Ray}
 use Rattle.ray.specs.Length.{Side, X, Y, Z, Volume}
 use Rattle.walk.specs.declared.line.Line.{Line}
@@ -43,3 +44,17 @@ pub record Sized (a : Line) : Type 0 where
 
 pub record Able (s : Scene) : Type 0 where
   pub sized : (side : Side) → Sized (line s side)
+
+-- the tick t is within the array's planes on an axis
+pub record Window (a : Line) (c t : ℕ) : Type 0 where
+  pub some : 0 < c
+  pub holds : held (legN (a .p) (a .q)) (slabN (plane a 0) (plane a (a .n))) ≡ true
+  pub since : enters c (legN (a .p) (a .q)) (slabN (plane a 0) (plane a (a .n))) ≤ t
+  pub until : t < leaves c (legN (a .p) (a .q)) (slabN (plane a 0) (plane a (a .n)))
+
+-- and within the planes of its voxel i
+pub record Within (a : Line) (c t i : ℕ) : Type 0 where
+  pub inside : i < a .n
+  pub holds : held (legN (a .p) (a .q)) (slabN (plane a i) (plane a (i + 1))) ≡ true
+  pub since : enters c (legN (a .p) (a .q)) (slabN (plane a i) (plane a (i + 1))) ≤ t
+  pub until : t < leaves c (legN (a .p) (a .q)) (slabN (plane a i) (plane a (i + 1)))

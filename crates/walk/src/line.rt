@@ -1,9 +1,11 @@
 // One axis of a scene against the ray, in the axis' own units: a unit is α times the difference of the ends.
 ghost use mathlib.Core.Path.{_≡_};
-ghost use Prim.Native.Nat.{ℕ, _*_, min, max};
+ghost use Prim.Native.Nat.{ℕ, _+_, _*_, _^_, _≤_, _<_};
 ghost use lib.IntN.{pos};
 ghost use Rattle.axis.specs.Leg.{factor, run, enters, leaves, held};
-ghost use Rattle.walk.specs.Scene.{legN, slabN};
+ghost use Rattle.walk.specs.Scene.{legN, slabN, plane, Sized, Window, Within};
+use crate::extremes::least;
+use crate::extremes::most;
 
 // The ray goes from p to q; plane i is at b + i * d, i from 0 to n.
 pub struct Line {
@@ -18,18 +20,6 @@ pub struct Scene {
     pub x: Line,
     pub y: Line,
     pub z: Line,
-}
-
-fn least(a: u64, b: u64) -> u64
-    ensures { λ r. ⌜ r ≡ min a b ⌝ }
-{
-    if a < b { a } else { b }
-}
-
-fn most(a: u64, b: u64) -> u64
-    ensures { λ r. ⌜ r ≡ max a b ⌝ }
-{
-    if a < b { b } else { a }
 }
 
 impl Line {
@@ -84,6 +74,42 @@ impl Line {
             if lo <= self.p { self.p < hi } else { false }
         } else {
             true
+        }
+    }
+
+    pub fn plane(self, i: u64) -> u64
+        requires { ⌜ Sized self × (i ≤ self .n) ⌝ }
+        ensures { λ r. ⌜ r ≡ plane self i ⌝ }
+    {
+        self.b + i * self.d
+    }
+
+    // The voxel of the axis that the ray is in from the tick t on, in ticks of c to a unit: by one division, with no scan.
+    pub fn index(self, c: u64, t: u64) -> u64
+        requires { ⌜ Sized self ⌝ }
+        requires { ⌜ Window self c t ⌝ }
+        ensures { λ r. ⌜ Within self c t r ⌝ }
+    {
+        let g = t / c;
+        if self.p < self.q {
+            return (self.p + g - self.b) / self.d;
+        }
+        if self.q < self.p {
+            return (self.p - g - 1 - self.b) / self.d;
+        }
+        (self.p - self.b) / self.d
+    }
+
+    // What one voxel on, in the way of the ray, adds to the number modulo 2^64, where a voxel of the axis counts unit.
+    pub fn jump(self, unit: u64) -> u64
+        requires { ⌜ 0 < unit ⌝ }
+        ensures { λ r. ⌜ (self .p < self .q → r ≡ unit) ⌝ }
+        ensures { λ r. ⌜ (self .q < self .p → r + unit ≡ 2 ^ 64) ⌝ }
+    {
+        if self.p < self.q {
+            unit
+        } else {
+            18446744073709551615 - (unit - 1)
         }
     }
 }

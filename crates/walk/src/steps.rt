@@ -1,10 +1,8 @@
 // The walk from voxel to voxel. Every field is 64 bits wide and each turn branches on the axis that is left first: that is
 // what makes it fast.
 ghost use mathlib.Core.Path.{_≡_};
-ghost use mathlib.Core.List.{map};
-ghost use Prim.Native.Nat.{_+_, _-_, _%_, _^_, _≤_, _<_};
-ghost use lib.ListN.{length, take, drop};
-ghost use Rattle.walk.specs.Model.{Forward, soonest, stepped, entries};
+ghost use Prim.Native.Nat.{_+_, _%_, _^_, _<_};
+ghost use Rattle.walk.specs.Model.{stepped};
 use std::num::wrapping_add_u64;
 
 // The voxel v that the walk is in since the tick t, and the ticks at which it leaves it on each axis.

@@ -2,7 +2,7 @@ use native.Mathlib.Omega.{arith}
 use mathlib.Core.Path.{sym}
 use mathlib.Core.Bool.{true, false}
 use borrow.Author.Tests.{eq-eqb, ne-eqb}
-use Rattle.walk.proofs.Turn.{step-is}
+use Rattle.walk.proofs.StepIs.{step-is}
 use borrow.Author.Needs.{needs}
 use Rattle.walk.proofs.steps.Walk.step.Statement.{statement}
 use Rattle.walk.proofs.steps.Walk.step.Tie as tie

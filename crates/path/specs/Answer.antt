@@ -1,0 +1,48 @@
+-- Document 01, "What a trace hands back" and "Several rays into one pair of lists". Definitions only. Assumes nothing.
+use Prim.Native.Nat.{ℕ, _+_}
+use mathlib.Core.Bool.{cond}
+use mathlib.Core.List.{List, _++_, map}
+use lib.Dec.{eqb}
+use lib.ListN.{length, take, drop}
+use Rattle.axis.specs.Codes.{bench, first}
+use Rattle.ray.specs.declared.Grid.{Grid}
+use Rattle.ray.specs.declared.Ray.{Ray}
+use Rattle.ray.specs.Length.{volume, dOf, squaredOf, spanOf, partOf, listOf, sumOf, crossedOf}
+use Rattle.ray.specs.Codes.{traceRows}
+use Rattle.path.specs.declared.Trace.{Trace}
+
+-- the code, where `filled` places of lists of these lengths are taken
+abbrev pub codeOf : Grid → Ray → (densities voxels parts filled : ℕ) → ℕ
+codeOf g r densities voxels parts filled = first (traceRows bench g r densities voxels parts filled)
+
+-- "A refusal returns its code and zeros."
+abbrev pub refused : ℕ → Trace
+refused c = record { entries = 0; crossed = 0; span = 0; d = 0; squared = 0; sum = 0; code = c }
+
+abbrev pub accepted : Grid → Ray → List ℕ → Trace
+accepted g r densities = record {
+  entries = length (listOf (volume g) r);
+  crossed = crossedOf (volume g) r;
+  span = spanOf (volume g) r;
+  d = dOf r;
+  squared = squaredOf r;
+  sum = sumOf (volume g) r densities;
+  code = 0;
+}
+
+unfoldable pub answerOf : Grid → Ray → List ℕ → (voxels parts filled : ℕ) → Trace
+answerOf g r densities voxels parts filled =
+    let c : ℕ = codeOf g r (length densities) voxels parts filled in cond (eqb c 0) (accepted g r densities) (refused c)
+
+-- a list with new values behind its first `filled` places, "later places as they were"
+abbrev pub written : ℕ → List ℕ → List ℕ → List ℕ
+written filled new old = take filled old ++ (new ++ drop (filled + length new) old)
+
+-- the two lists afterwards: the answer behind the places filled, or, on a refusal, as they were
+unfoldable pub voxelsAfter : Grid → Ray → (densities : ℕ) → (voxels parts : List ℕ) → ℕ → List ℕ
+voxelsAfter g r densities voxels parts filled =
+    cond (eqb (codeOf g r densities (length voxels) (length parts) filled) 0) (written filled (listOf (volume g) r) voxels) voxels
+
+unfoldable pub partsAfter : Grid → Ray → (densities : ℕ) → (voxels parts : List ℕ) → ℕ → List ℕ
+partsAfter g r densities voxels parts filled =
+    cond (eqb (codeOf g r densities (length voxels) (length parts) filled) 0) (written filled (map (partOf (volume g) r) (listOf (volume g) r)) parts) parts

@@ -1,0 +1,2 @@
+-- What a trace answers, and what it leaves in the lists.
+pub mod Answer

@@ -1,0 +1,109 @@
+-- Fields, walked from the front of the line. Assumes nothing.
+use Prim.Native.Nat.{ℕ, zero, suc, _+_, _-_, _≤_, _<_}
+use mathlib.Core.Bool.{Bool, true, false, cond}
+use mathlib.Core.List.{List, [], _∷_}
+use mathlib.Core.Path.{_≡_, refl, ap, sym, _∙_}
+use lib.Dec.{eqb}
+use lib.ListN.{length, getD, take, drop, drop-of-length-le, length-drop, List·getD-eq-default}
+use lib.Seq.{drop-cons, drop-drop, getD-drop}
+use native.Mathlib.Nat.{add-zero}
+use native.Mathlib.Omega.{arith}
+use native.Mathlib.Numerals.{add-one}
+use borrow.Author.Tests.{eq-eqb, ne-eqb}
+use Rattle.text.specs.Split.{grow, split, until, after}
+
+-- the first field ends ahead of the first sep, and the others are those of what stands behind it
+pub split-first : (sep : ℕ) (xs : List ℕ) → split sep xs ≡ take (until sep xs) xs ∷ after sep (drop (until sep xs) xs)
+unfolding split until after
+split-first sep [] = refl
+split-first sep (x ∷ xs) = go (eqb x sep) (split-first sep xs)
+  where
+    go : (b : Bool) → split sep xs ≡ take (until sep xs) xs ∷ after sep (drop (until sep xs) xs) → cond b ([] ∷ split sep xs) (grow x (split sep xs)) ≡ take (cond b zero (suc (until sep xs))) (x ∷ xs) ∷ after sep (drop (cond b zero (suc (until sep xs))) (x ∷ xs))
+    go true e = refl
+    go false e = ap (grow x) e
+
+until-within : (sep : ℕ) (xs : List ℕ) → until sep xs ≤ length xs
+unfolding until
+until-within sep [] = omega arith
+until-within sep (x ∷ xs) = go (eqb x sep) (until-within sep xs)
+  where
+    go : (b : Bool) → until sep xs ≤ length xs → cond b zero (suc (until sep xs)) ≤ suc (length xs)
+    go true h = omega arith
+    go false h = omega arith
+
+grown : (x sep : ℕ) (xs : List ℕ) → length (grow x (split sep xs)) ≡ length (split sep xs)
+grown x sep xs = ap (λ (l : List (List ℕ)). length (grow x l)) (split-first sep xs) ∙ sym (ap length (split-first sep xs))
+
+-- at an index of a line
+module _ (sep : ℕ) (s : List ℕ) (i : ℕ) where
+  pub until-here : i < length s → getD s i 0 ≡ sep → until sep (drop i s) ≡ 0
+  unfolding until
+  until-here h e = rw (drop-cons s i 0, eq-eqb (getD s i 0) sep e) refl
+
+  pub until-on : i < length s → (getD s i 0 ≡ sep → ⊥) → until sep (drop i s) ≡ suc (until sep (drop (i + 1) s))
+  unfolding until
+  until-on h e = rw (add-one, drop-cons s i 0, ne-eqb (getD s i 0) sep e) refl
+
+  pub until-end : length s ≤ i → until sep (drop i s) ≡ 0
+  unfolding until
+  until-end h = rw (drop-of-length-le s h) refl
+
+  pub count-here : i < length s → getD s i 0 ≡ sep → length (split sep (drop i s)) ≡ suc (length (split sep (drop (i + 1) s)))
+  unfolding split
+  count-here h e = rw (add-one, drop-cons s i 0, eq-eqb (getD s i 0) sep e) refl
+
+  pub count-on : i < length s → (getD s i 0 ≡ sep → ⊥) → length (split sep (drop i s)) ≡ length (split sep (drop (i + 1) s))
+  unfolding split
+  count-on h e = rw (add-one, drop-cons s i 0, ne-eqb (getD s i 0) sep e) (grown (getD s i 0) sep (drop (suc i) s))
+
+  pub count-end : length s ≤ i → length (split sep (drop i s)) ≡ 1
+  unfolding split
+  count-end h = rw (drop-of-length-le s h) refl
+
+  pub end-within : i ≤ length s → i + until sep (drop i s) ≤ length s
+  end-within h = omega (arith, until-within sep (drop i s), length-drop i s)
+
+  -- behind the place where a field ended
+  pub after-end : length s ≤ i → after sep (drop i s) ≡ []
+  unfolding after
+  after-end h = rw (drop-of-length-le s h) refl
+
+  pub after-sep : i < length s → after sep (drop i s) ≡ split sep (drop (i + 1) s)
+  unfolding after
+  after-sep h = rw (add-one, drop-cons s i 0) refl
+
+-- the field that starts at `at` and ends at e, and those behind it
+fields-from : (sep : ℕ) (s : List ℕ) (at e : ℕ) → e ≡ at + until sep (drop at s) → split sep (drop at s) ≡ take (e - at) (drop at s) ∷ after sep (drop e s)
+fields-from sep s at e ends =
+    let n : e - at ≡ until sep (drop at s) = omega arith in
+    split-first sep (drop at s)
+    ∙ rw (n, ends, drop-drop (until sep (drop at s)) at s) refl
+
+-- one field on: the next starts behind the sep
+pub next-field : (sep : ℕ) (s : List ℕ) (e e′ : ℕ) → e < length s → e′ ≡ e + 1 + until sep (drop (e + 1) s) → after sep (drop e s) ≡ take (e′ - (e + 1)) (drop (e + 1) s) ∷ after sep (drop e′ s)
+next-field sep s e e′ h ends = after-sep sep s e h ∙ fields-from sep s (e + 1) e′ ends
+
+-- a walk: the fields from j on are those of the line from `at` on, and the first of them ends at e
+module _ (sep : ℕ) (s : List ℕ) (j at e : ℕ) (walk : drop j (split sep s) ≡ split sep (drop at s)) (ends : e ≡ at + until sep (drop at s)) where
+  from-here : drop j (split sep s) ≡ take (e - at) (drop at s) ∷ after sep (drop e s)
+  from-here = walk ∙ fields-from sep s at e ends
+
+  pub walk-here : take (e - at) (drop at s) ≡ getD (split sep s) j []
+  walk-here = sym (ap (λ (l : List (List ℕ)). getD l 0 []) from-here) ∙ getD-drop j (split sep s) 0 [] ∙ rw add-zero refl
+
+  pub walk-rest : after sep (drop e s) ≡ drop (j + 1) (split sep s)
+  walk-rest = sym (sym (drop-drop 1 j (split sep s)) ∙ ap (drop 1) from-here)
+
+  pub walk-on : e < length s → drop (j + 1) (split sep s) ≡ split sep (drop (e + 1) s)
+  walk-on h = sym walk-rest ∙ after-sep sep s e h
+
+  -- past the last field
+  module _ (out : length s ≤ e) (k : ℕ) (more : j < k) where
+    few : length (split sep s) ≤ k
+    few = omega (arith, length-drop (j + 1) (split sep s), ap length (sym walk-rest ∙ after-end sep s e out))
+
+    pub past-here : take (e - e) (drop e s) ≡ getD (split sep s) k []
+    past-here = let z : e - e ≡ 0 = omega arith in rw z (sym (List·getD-eq-default (split sep s) [] few))
+
+    pub past-rest : after sep (drop e s) ≡ drop (k + 1) (split sep s)
+    past-rest = let short : length (split sep s) ≤ k + 1 = omega (arith, few) in after-end sep s e out ∙ sym (drop-of-length-le (split sep s) short)

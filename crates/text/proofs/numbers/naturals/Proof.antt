@@ -1,0 +1,141 @@
+-- `text::numbers::naturals` meets its contract. The loop keeps `Reading`. Assumes nothing.
+use Prim.Native.Nat.{_+_, _-_}
+use native.Mathlib.Omega.{arith}
+use borrow.Author.Needs.{needs}
+use Rattle.text.specs.Numbers.{naturalTo}
+use Rattle.text.specs.declared.number.Natural.the-variants.{Value, Bad}
+use Rattle.text.proofs.Split.{end-within}
+use Rattle.text.proofs.Sign.{natural-told}
+use Rattle.text.proofs.Every.{Reading, reading-begins, reading-ends, reading-short, reading-bad, reading-on, to-bad, to-over, to-good}
+use Rattle.text.proofs.numbers.naturals.Statement.{statement}
+use Rattle.text.proofs.numbers.naturals.Tie as tie
+
+abbrev Inv-loop : tie.InvT-loop
+Inv-loop line k n most out₀ end₀ j₀ out end j = Reading (naturalTo most) line k n out₀ out end j
+
+abbrev μ-loop : tie.MeasureT-loop
+μ-loop line k n most out₀ end₀ j₀ out end j = n - j
+
+field-requires : tie.Need-field-requires Inv-loop μ-loop
+field-requires c κs = search needs
+
+loop-holds : tie.Need-loop-holds Inv-loop μ-loop
+loop-holds c =
+    let a = c .before .before .before .args in
+    reading-begins (naturalTo (a .most)) (a .line .now) (a .k) (a .n) (a .out .now) (c .field .result .end) (omega arith) (c .field .ensures .1 .1)
+
+same-length : tie.Need-same-length Inv-loop μ-loop
+same-length c = c .before .before .loop .inv .kept
+
+returns : tie.Need-returns Inv-loop μ-loop
+returns c =
+    let l = c .before .before in
+    let a = l .before .before .before .before .args in
+    let o = l .loop in
+    reading-short (naturalTo (a .most)) (a .line .now) (a .k) (a .n) (a .out .now) (o .out) (o .end) (o .j) (o .inv) (omega arith) (omega arith)
+
+add-at : tie.Need-add-at Inv-loop μ-loop
+add-at c = search needs
+
+field-end-requires : tie.Need-field-end-requires Inv-loop μ-loop
+field-end-requires c κs = search needs
+
+sub-natural-in : tie.Need-sub-natural-in Inv-loop μ-loop
+sub-natural-in c = search needs
+
+part-natural-in-start : tie.Need-part-natural-in-start Inv-loop μ-loop
+part-natural-in-start c = search needs
+
+part-natural-in-end : tie.Need-part-natural-in-end Inv-loop μ-loop
+part-natural-in-end c =
+    let l = c .before .before .before in
+    let a = l .before .before .before .before .args in
+    omega (arith, end-within 9 (a .line .now) (l .loop .end + 1) (omega arith))
+
+natural-in-requires : tie.Need-natural-in-requires Inv-loop μ-loop
+natural-in-requires c κs = search needs
+
+enum-known-size : tie.Need-enum-known-size Inv-loop μ-loop
+enum-known-size c = search needs
+
+enum-told : tie.Need-enum-told Inv-loop μ-loop
+enum-told c = search needs
+
+same-length-2 : tie.Need-same-length-2 Inv-loop μ-loop
+same-length-2 c = c .before .before .before .before .before .before .before .loop .inv .kept
+
+returns-2 : tie.Need-returns-2 Inv-loop μ-loop
+returns-2 c =
+    let l = c .before .before .before .before .before .before .before in
+    let a = l .before .before .before .before .args in
+    let o = l .loop in
+    reading-bad (naturalTo (a .most)) (a .line .now) (a .k) (a .n) (a .out .now) (o .out) (o .end) (o .j) (o .inv) (omega arith) (omega arith) (c .before .before .before .before .field-end .result) (c .before .before .before .before .field-end .ensures) (to-bad (a .most) _ (natural-told _ Bad (c .before .before .natural-in .ensures) (c .enum-told .given .1)))
+
+same-length-3 : tie.Need-same-length-3 Inv-loop μ-loop
+same-length-3 c = c .before .before .before .before .before .before .before .before .before .loop .inv .kept
+
+returns-3 : tie.Need-returns-3 Inv-loop μ-loop
+returns-3 c =
+    let l = c .before .before .before .before .before .before .before .before .before in
+    let a = l .before .before .before .before .args in
+    let o = l .loop in
+    reading-bad (naturalTo (a .most)) (a .line .now) (a .k) (a .n) (a .out .now) (o .out) (o .end) (o .j) (o .inv) (omega arith) (omega arith) (c .before .before .before .before .before .before .field-end .result) (c .before .before .before .before .before .before .field-end .ensures) (to-over (a .most) _ (natural-told _ (Value (c .before .before .size .given .0 .0)) (c .before .before .before .before .natural-in .ensures) (c .before .before .size .given .1)) (c .if2 .taken))
+
+mul-out : tie.Need-mul-out Inv-loop μ-loop
+mul-out c = search needs
+
+slice-write-out : tie.Need-slice-write-out Inv-loop μ-loop
+slice-write-out c = search needs
+
+add-j : tie.Need-add-j Inv-loop μ-loop
+add-j c = search needs
+
+loop-less : tie.Need-loop-less Inv-loop μ-loop
+loop-less c = search needs
+
+loop-again : tie.Need-loop-again Inv-loop μ-loop
+loop-again c =
+    let l = c .before .before .before .before .before .before .before .before .before in
+    let a = l .before .before .before .before .args in
+    let o = l .loop in
+    reading-on (naturalTo (a .most)) (a .line .now) (a .k) (a .n) (a .out .now) (o .out) (o .end) (o .j) (o .inv) (omega arith) (omega arith) (c .before .before .before .before .before .before .field-end .result) (c .before .before .before .before .before .before .field-end .ensures) (c .before .before .size .given .0 .0) (to-good (a .most) _ (natural-told _ (Value (c .before .before .size .given .0 .0)) (c .before .before .before .before .natural-in .ensures) (c .before .before .size .given .1)) (c .if2 .left)) (omega arith)
+
+same-length-4 : tie.Need-same-length-4 Inv-loop μ-loop
+same-length-4 c = c .before .loop .inv .kept
+
+returns-4 : tie.Need-returns-4 Inv-loop μ-loop
+returns-4 c =
+    let l = c .before in
+    let a = l .before .before .before .before .args in
+    let o = l .loop in
+    reading-ends (naturalTo (a .most)) (a .line .now) (a .k) (a .n) (a .out .now) (o .out) (o .end) (o .j) (o .inv) (omega arith)
+
+pub naturals-spec : {M : Type 1} → statement M
+naturals-spec =
+    tie.close
+    (tie.spec
+    Inv-loop
+    μ-loop
+    field-requires
+    loop-holds
+    same-length
+    returns
+    add-at
+    field-end-requires
+    sub-natural-in
+    part-natural-in-start
+    part-natural-in-end
+    natural-in-requires
+    enum-known-size
+    enum-told
+    same-length-2
+    returns-2
+    same-length-3
+    returns-3
+    mul-out
+    slice-write-out
+    add-j
+    loop-less
+    loop-again
+    same-length-4
+    returns-4)

@@ -1,0 +1,28 @@
+-- Document 01, "The text job": the words that a line may begin with. Definitions only. Assumes nothing.
+use Prim.Native.Nat.{ℕ}
+use mathlib.Core.Bool.{Bool, true, false, _&&_, cond}
+use mathlib.Core.List.{List, [], _∷_}
+use lib.Dec.{eqb}
+use Rattle.text.specs.declared.word.Word.{Word}
+use Rattle.text.specs.declared.word.Word.the-variants.{Grid, Dens, Ray, Other}
+
+-- the words as bytes
+abbrev pub GRID : List ℕ
+GRID = 71 ∷ 82 ∷ 73 ∷ 68 ∷ []
+
+abbrev pub DENS : List ℕ
+DENS = 68 ∷ 69 ∷ 78 ∷ 83 ∷ []
+
+abbrev pub RAY : List ℕ
+RAY = 82 ∷ 65 ∷ 89 ∷ []
+
+-- byte for byte
+unfoldable pub same : List ℕ → List ℕ → Bool
+same [] [] = true
+same [] (y ∷ ys) = false
+same (x ∷ xs) [] = false
+same (x ∷ xs) (y ∷ ys) = eqb x y && same xs ys
+
+-- "21 unknown first word (an empty line too)": every other field is `Other`, the empty one too
+abbrev pub wordOf : List ℕ → Word
+wordOf t = cond (same t GRID) Grid (cond (same t DENS) Dens (cond (same t RAY) Ray Other))

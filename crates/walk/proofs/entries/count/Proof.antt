@@ -1,0 +1,64 @@
+use Prim.Native.Nat.{_-_}
+use mathlib.Core.Path.{_≡_, ap, _∙_}
+use native.Mathlib.Omega.{arith}
+use Rattle.walk.specs.declared.steps.Walk.{Walk}
+use Rattle.walk.specs.Model.{soonest, stepped, entries}
+use Rattle.walk.proofs.Turns.{step-fits, step-tick, Counting, none-counted, counted-below, last-counted, one-counted}
+use Rattle.walk.proofs.entries.count.Statement.{statement}
+use Rattle.walk.proofs.entries.count.Tie as tie
+use Rattle.walk.proofs.entries.count.Reads as reads
+use Rattle.walk.proofs.entries.count.Lts as lts
+use Rattle.walk.proofs.steps.Walk.step.Reads as step-reads
+
+abbrev Inv-loop : tie.InvT-loop
+Inv-loop s to w₀ r₀ w r = Counting s to (entries s to w₀) w r
+
+abbrev μ-loop : tie.MeasureT-loop
+μ-loop s to w₀ r₀ w r = to - w .t
+
+loop-holds : tie.Need-loop-holds Inv-loop μ-loop
+loop-holds c = none-counted (c .args .s) (c .args .to) (c .args .begin) (c .pre)
+
+step-requires : tie.Need-step-requires Inv-loop μ-loop
+step-requires c κs =
+    let a = c .before .args in
+    let l = c .loop in
+    step-fits (a .s) (a .to) (l .w) (l .inv .forward)
+
+add-r : tie.Need-add-r Inv-loop μ-loop
+add-r c =
+    let a = c .before .before .args in
+    let l = c .before .loop in
+    record { fits = omega (arith, counted-below (a .s) (a .to) (entries (a .s) (a .to) (a .begin)) (l .w) (l .r) (l .inv), l .inv .few) }
+
+returns : tie.Need-returns Inv-loop μ-loop
+returns c =
+    let a = c .before .before .before .before .args in
+    let l = c .before .before .before .loop in
+    let n = c .before .before .step .result in
+    let e : n ≡ stepped (a .s) (l .w) = c .before .before .step .ensures in
+    let u : n .t ≡ soonest (l .w) = ap (λ (x : Walk). x .t) e ∙ step-tick (a .s) (a .to) (l .w) in
+    last-counted (a .s) (a .to) (entries (a .s) (a .to) (a .begin)) (l .w) (l .r) (l .inv) (omega (arith, u, c .if1 .taken))
+
+loop-less : tie.Need-loop-less Inv-loop μ-loop
+loop-less c =
+    let a = c .before .before .before .before .args in
+    let l = c .before .before .before .loop in
+    let n = c .before .before .step .result in
+    let e : n ≡ stepped (a .s) (l .w) = c .before .before .step .ensures in
+    let u : n .t ≡ soonest (l .w) = ap (λ (x : Walk). x .t) e ∙ step-tick (a .s) (a .to) (l .w) in
+    omega (arith, u, l .inv .forward .later, l .inv .forward .before)
+
+loop-again : tie.Need-loop-again Inv-loop μ-loop
+loop-again c =
+    let a = c .before .before .before .before .args in
+    let l = c .before .before .before .loop in
+    let n = c .before .before .step .result in
+    let e : n ≡ stepped (a .s) (l .w) = c .before .before .step .ensures in
+    let u : n .t ≡ soonest (l .w) = ap (λ (x : Walk). x .t) e ∙ step-tick (a .s) (a .to) (l .w) in
+    rw e (one-counted (a .s) (a .to) (entries (a .s) (a .to) (a .begin)) (l .w) (l .r) (l .inv) (omega (arith, u, c .if1 .left)))
+
+pub count-spec : {M : Type 1} → statement M
+count-spec =
+    tie.close
+    (tie.spec Inv-loop μ-loop loop-holds step-requires add-r returns loop-less loop-again)

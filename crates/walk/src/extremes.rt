@@ -1,0 +1,15 @@
+// The least and the greatest of two.
+ghost use mathlib.Core.Path.{_≡_};
+ghost use Prim.Native.Nat.{min, max};
+
+pub fn least(a: u64, b: u64) -> u64
+    ensures { λ r. ⌜ r ≡ min a b ⌝ }
+{
+    if a < b { a } else { b }
+}
+
+pub fn most(a: u64, b: u64) -> u64
+    ensures { λ r. ⌜ r ≡ max a b ⌝ }
+{
+    if a < b { b } else { a }
+}
