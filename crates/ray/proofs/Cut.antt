@@ -20,6 +20,19 @@ use Rattle.ray.proofs.CutBox.{Between, near, far, upTo, onFrom, factors
 abbrev pub difference : Ray → Side → ℕ
 difference r s = natAbs (leg r s .q -ℤ leg r s .p)
 
+-- The mean of the pieces, weighted by their lengths on an axis s: x/D = PM/PQ · x/D of P to M + MQ/PQ · x/D of M to Q, where x is a
+-- number that each ray has, as its part in a voxel.
+abbrev pub Mean : Ray → End → Side → (Ray → ℕ) → Type 0
+Mean r m s x =
+    x r * difference r s * (dOf (near r m) * dOf (far r m))
+    ≡ (difference (near r m) s * x (near r m) * dOf (far r m) + difference (far r m) s * x (far r m) * dOf (near r m)) * dOf r
+
+-- the same, with what x is multiplied by put together
+abbrev Spread : Ray → End → Side → (Ray → ℕ) → Type 0
+Spread r m s x =
+    difference r s * (dOf (near r m) * dOf (far r m)) * x r
+    ≡ difference (near r m) s * dOf (far r m) * dOf r * x (near r m) + difference (far r m) s * dOf (near r m) * dOf r * x (far r m)
+
 moving-factor : (r : Ray) (s : Side) → moving (leg r s) ≡ true → factor (leg r s) ≡ difference r s
 moving-factor r s h = rw h
 
@@ -31,10 +44,13 @@ weights : (f q dn df a b x y z : ℕ) → x * (dn * df) ≡ y * (a * q) * df + z
 weights f q dn df a b x y z h =
     mul-assoc f (dn * df) x ∙ ap (λ (t : ℕ). f * t) (mul-comm (dn * df) x ∙ h) ∙ simp (mul-add, mul-assoc, mul-comm, mul-left-comm)
 
--- a part or a sum x, y, z of the ray and of its pieces, over D, dn, df: x/D = a/f · y/dn + b/f · z/df
 shown : (f dn df a b d x y z : ℕ) → f * (dn * df) * x ≡ a * df * d * y + b * dn * d * z → x * f * (dn * df) ≡ (a * y * df + b * z * dn) * d
 shown f dn df a b d x y z h =
     mul-assoc x f (dn * df) ∙ mul-comm x (f * (dn * df)) ∙ h ∙ simp (mul-add, mul-assoc, mul-comm, mul-left-comm)
+
+mean : (r : Ray) (m : End) (s : Side) (x : Ray → ℕ) → Spread r m s x → Mean r m s x
+mean r m s x =
+    shown (difference r s) (dOf (near r m)) (dOf (far r m)) (difference (near r m) s) (difference (far r m) s) (dOf r) (x r) (x (near r m)) (x (far r m))
 
 left : (a b f a′ b′ f′ : ℕ) → a + b ≡ f → a′ + b′ ≡ f′ → a * f′ ≡ a′ * f → b * f′ ≡ b′ * f
 left a b f a′ b′ f′ h k e =
@@ -66,44 +82,30 @@ module _ (r : Ray) (m : End) (between : Between r m) where
     pub α-difference : between .d * difference (near r m) s ≡ between .n * difference r s
     α-difference = ap (λ (x : ℕ). between .d * x) (sym near-difference) ∙ share r m between s moves ∙ ap (λ (x : ℕ). between .n * x) (moving-factor r s moves)
 
-    weights-cut : (b : Side → Slab)
-        → difference r s * (dOf (near r m) * dOf (far r m)) * part r b
-        ≡ difference (near r m) s * dOf (far r m) * dOf r * part (near r m) b + difference (far r m) s * dOf (near r m) * dOf r * part (far r m) b
+    part-spread : (b : Side → Slab) → Spread r m s (λ t. part t b)
     unfolding upTo onFrom
-    weights-cut b =
+    part-spread b =
         rw (← near-difference, ← far-difference, ← moving-factor r s moves, d-side r s)
         (weights (factor (leg r s)) (rest r s) (dOf (near r m)) (dOf (far r m)) (factor (leg (near r m) s)) (factor (leg (far r m) s)) (part r b) (part (near r m) b) (part (far r m) b) (parts r m between s moves b))
 
-    -- In every box: part over D is PM/PQ times P to M's part over its D, and MQ/PQ times M to Q's over its D.
-    pub part-cut : (b : Side → Slab)
-        → part r b * difference r s * (dOf (near r m) * dOf (far r m))
-        ≡ (difference (near r m) s * part (near r m) b * dOf (far r m) + difference (far r m) s * part (far r m) b * dOf (near r m)) * dOf r
-    part-cut b = shown (difference r s) (dOf (near r m)) (dOf (far r m)) (difference (near r m) s) (difference (far r m) s) (dOf r) _ _ _ (weights-cut b)
-
     module _ (v : Volume) where
-      voxel-weights : (w : ℕ)
-          → difference r s * (dOf (near r m) * dOf (far r m)) * partOf v r w
-          ≡ difference (near r m) s * dOf (far r m) * dOf r * partOf v (near r m) w + difference (far r m) s * dOf (near r m) * dOf r * partOf v (far r m) w
-      voxel-weights w = rw (part-voxel v r w, part-voxel v (near r m) w, part-voxel v (far r m) w) (weights-cut (voxel v w))
+      voxel-spread : (w : ℕ) → Spread r m s (λ t. partOf v t w)
+      voxel-spread w = rw (part-voxel v r w, part-voxel v (near r m) w, part-voxel v (far r m) w) (part-spread (voxel v w))
 
-      -- So in every voxel; a piece that does not meet it has part 0 there.
-      pub voxel-cut : (w : ℕ)
-          → partOf v r w * difference r s * (dOf (near r m) * dOf (far r m))
-          ≡ (difference (near r m) s * partOf v (near r m) w * dOf (far r m) + difference (far r m) s * partOf v (far r m) w * dOf (near r m)) * dOf r
-      voxel-cut w = rw (part-voxel v r w, part-voxel v (near r m) w, part-voxel v (far r m) w) (part-cut (voxel v w))
+      -- a voxel's part over D
+      pub voxel-cut : (w : ℕ) → Mean r m s (λ t. partOf v t w)
+      voxel-cut w = mean r m s (λ t. partOf v t w) (voxel-spread w)
 
-      -- And the weighted sum over D is the pieces' sums over their D, weighted in the same way.
-      pub sum-cut : (densities : List ℕ)
-          → sumOf v r densities * difference r s * (dOf (near r m) * dOf (far r m))
-          ≡ (difference (near r m) s * sumOf v (near r m) densities * dOf (far r m) + difference (far r m) s * sumOf v (far r m) densities * dOf (near r m)) * dOf r
+      -- the weighted sum over D
+      pub sum-cut : (densities : List ℕ) → Mean r m s (λ t. sumOf v t densities)
       unfolding sumOf
       sum-cut densities =
-          shown (difference r s) (dOf (near r m)) (dOf (far r m)) (difference (near r m) s) (difference (far r m) s) (dOf r) _ _ _
+          mean r m s (λ t. sumOf v t densities)
           (linear (difference r s * (dOf (near r m) * dOf (far r m))) (difference (near r m) s * dOf (far r m) * dOf r) (difference (far r m) s * dOf (near r m) * dOf r)
           (λ w. partOf v r w * getD densities w 0)
           (λ w. partOf v (near r m) w * getD densities w 0)
           (λ w. partOf v (far r m) w * getD densities w 0)
-          (λ w. dense (difference r s * (dOf (near r m) * dOf (far r m))) (difference (near r m) s * dOf (far r m) * dOf r) (difference (far r m) s * dOf (near r m) * dOf r) (partOf v r w) (partOf v (near r m) w) (partOf v (far r m) w) (getD densities w 0) (voxel-weights w))
+          (λ w. dense (difference r s * (dOf (near r m) * dOf (far r m))) (difference (near r m) s * dOf (far r m) * dOf r) (difference (far r m) s * dOf (near r m) * dOf r) (partOf v r w) (partOf v (near r m) w) (partOf v (far r m) w) (getD densities w 0) (voxel-spread w))
           (count v))
 
   -- the weights are the same whichever moving axis they are read off

@@ -20,7 +20,7 @@ use Rattle.ray.proofs.Capped.{part, part-voxel, d-pos, met}
 use Rattle.ray.proofs.Planes.{Rise, grid-rise}
 use Rattle.ray.proofs.Apart.{voxel-apart, starts-apart}
 use Rattle.ray.proofs.CutBox.{Between, near, far, upTo, onFrom, up-to-pos, on-from-pos, parts, NearMet, near-met, FarMet, far-met}
-use Rattle.ray.proofs.Cut.{difference, differences, voxel-cut, sum-cut, same-quotient, same-quotient-far}
+use Rattle.ray.proofs.Cut.{difference, Mean, differences, voxel-cut, sum-cut, same-quotient, same-quotient-far}
 use Rattle.ray.proofs.Ends.{moves-on}
 use Rattle.ray.proofs.Seam.{joined, joined-cases, joined-left, joined-right, joined-rising, Below}
 
@@ -111,21 +111,17 @@ module _ (v : Volume) (rise : Rise v) (r : Ray) (m : End) (between : Between r m
   list-cut = sym (list-is v r (starts-apart v rise r) (joined (listOf v (near r m)) (listOf v (far r m))) pieces)
 
 -- All of it. PM/PQ and MQ/PQ are the quotients of the coordinate differences, the same on every moving axis, and make up 1. Weighted
--- by them a voxel's parts in the pieces, each over the piece's own D, make up its part over D; a piece that does not list the voxel has
--- part 0 in it. The weighted sum over D likewise.
+-- by them the pieces' parts in a voxel, each over the piece's own D, make up the ray's part over D; a piece that does not list the
+-- voxel has part 0 in it. The weighted sum over D likewise.
 pub record Cuts (v : Volume) (r : Ray) (m : End) : Type 0 where
   pub voxels : listOf v r ≡ joined (listOf v (near r m)) (listOf v (far r m))
   pub differences : (s : Side) → moving (leg r s) ≡ true → difference (near r m) s + difference (far r m) s ≡ difference r s
   pub quotient : (s t : Side) → moving (leg r s) ≡ true → moving (leg r t) ≡ true → difference (near r m) s * difference r t ≡ difference (near r m) t * difference r s
   pub quotient-far : (s t : Side) → moving (leg r s) ≡ true → moving (leg r t) ≡ true → difference (far r m) s * difference r t ≡ difference (far r m) t * difference r s
-  pub part : (s : Side) → moving (leg r s) ≡ true → (w : ℕ)
-      → partOf v r w * difference r s * (dOf (near r m) * dOf (far r m))
-      ≡ (difference (near r m) s * partOf v (near r m) w * dOf (far r m) + difference (far r m) s * partOf v (far r m) w * dOf (near r m)) * dOf r
+  pub part : (s : Side) → moving (leg r s) ≡ true → (w : ℕ) → Mean r m s (λ t. partOf v t w)
   pub near-absent : (w : ℕ) → w < count v → (List·Memᴰ w (listOf v (near r m)) → ⊥) → partOf v (near r m) w ≡ 0
   pub far-absent : (w : ℕ) → w < count v → (List·Memᴰ w (listOf v (far r m)) → ⊥) → partOf v (far r m) w ≡ 0
-  pub sum : (s : Side) → moving (leg r s) ≡ true → (densities : List ℕ)
-      → sumOf v r densities * difference r s * (dOf (near r m) * dOf (far r m))
-      ≡ (difference (near r m) s * sumOf v (near r m) densities * dOf (far r m) + difference (far r m) s * sumOf v (far r m) densities * dOf (near r m)) * dOf r
+  pub sum : (s : Side) → moving (leg r s) ≡ true → (densities : List ℕ) → Mean r m s (λ t. sumOf v t densities)
 
 pub cuts : (v : Volume) → Rise v → (r : Ray) (m : End) → Between r m → (o : Side) → moving (leg r o) ≡ true → Cuts v r m
 cuts v rise r m between o moves = record {

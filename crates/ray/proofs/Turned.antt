@@ -1,4 +1,4 @@
--- Demand 3, a ray turned round. Assumes nothing.
+-- Demand 3, a ray turned round: in every box it has the same length, and enters where the ray leaves. Assumes nothing.
 use Prim.Native.Nat.{ℕ, zero, suc, _+_, _-_, _*_, _≤_, _<_, min, max}
 use mathlib.Core.Path.{_≡_, refl, sym, ap, _∙_}
 use mathlib.Core.Bool.{Bool, true, false, _&&_, _||_, cond}
