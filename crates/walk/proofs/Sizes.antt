@@ -15,14 +15,18 @@ two-sizes h k = mul-le-mul {n₂ = 2 ^ 20} {m₂ = 2 ^ 20} h k
 pub three-sizes : {f c : ℕ} → f ≤ 2 ^ 20 → c ≤ 2 ^ 40 → f * c ≤ 2 ^ 60
 three-sizes h k = mul-le-mul {n₂ = 2 ^ 20} {m₂ = 2 ^ 40} h k
 
-module _ (a : Line) (sized : Sized a) where
-  factor-by : (w : Way) → factorBy w (a .p) (a .q) ≤ 2 ^ 20
-  factor-by up = omega (arith, sized .q-size)
-  factor-by down = omega (arith, sized .p-size)
-  factor-by still = omega arith
+-- a difference is no more than any bound of both ends
+pub factor-most : (p q most : ℕ) → p ≤ most → q ≤ most → 0 < most → factor (legN p q) ≤ most
+factor-most p q most hp hq some = let w = goes p q in rw (factor-is (w .0) p q (w .1)) (by (w .0))
+  where
+    by : (w : Way) → factorBy w p q ≤ most
+    by up = omega arith
+    by down = omega arith
+    by still = omega arith
 
+module _ (a : Line) (sized : Sized a) where
   pub factor-size : factor (legN (a .p) (a .q)) ≤ 2 ^ 20
-  factor-size = let w = goes (a .p) (a .q) in rw (factor-is (w .0) (a .p) (a .q) (w .1)) (factor-by (w .0))
+  factor-size = factor-most (a .p) (a .q) (2 ^ 20) (sized .p-size) (sized .q-size) (omega arith)
 
   module _ {i j : ℕ} (h : i ≤ j) (k : j ≤ a .n) where
     enter-by : (w : Way) → enterBy w (a .p) (plane a i) (plane a j) ≤ 2 ^ 20

@@ -1,0 +1,3 @@
+-- Laws of the trace.
+pub mod Accepting
+pub mod Raised

@@ -1,0 +1,54 @@
+// A grid and a ray told from the lower limit up, for the walk.
+ghost use mathlib.Core.Path.{_≡_};
+ghost use Prim.Native.Nat.{_+_, _*_, _≤_};
+ghost use Rattle.axis.specs.Codes.{bench};
+ghost use Rattle.ray.specs.Length.{squaredOf};
+ghost use Rattle.walk.specs.Scene.{Able, rayOf};
+ghost use Rattle.path.specs.Inside.{lineOf, sceneOf, gapN};
+use axis::Axis;
+use axis::raised;
+use ray::Grid;
+use ray::Ray;
+use walk::line::Line;
+use walk::line::Scene;
+
+fn line_of(a: Axis, p: i32, q: i32) -> Line
+    ensures { λ r. ⌜ r ≡ lineOf bench a p q ⌝ }
+{
+    Line {
+        p: raised(p, Axis::COORD_MAX),
+        q: raised(q, Axis::COORD_MAX),
+        b: raised(a.b, Axis::COORD_MAX),
+        d: a.d as u64,
+        n: a.n as u64,
+    }
+}
+
+pub fn scene_of(g: Grid, r: Ray) -> Scene
+    ensures { λ s. ⌜ s ≡ sceneOf bench g r ⌝ }
+{
+    let p = r.p;
+    let q = r.q;
+    let x = line_of(g.x, p.x, q.x);
+    let y = line_of(g.y, p.y, q.y);
+    let z = line_of(g.z, p.z, q.z);
+    Scene { x, y, z }
+}
+
+fn square(a: Line) -> u64
+    requires { ⌜ (a .p ≤ 1048576) × (a .q ≤ 1048576) ⌝ }
+    ensures { λ r. ⌜ r ≡ gapN (a .p) (a .q) * gapN (a .p) (a .q) ⌝ }
+{
+    let gap = if a.p < a.q { a.q - a.p } else { a.p - a.q };
+    gap * gap
+}
+
+pub fn squared_of(s: Scene) -> u64
+    requires { ⌜ Able s ⌝ }
+    ensures { λ r. ⌜ r ≡ squaredOf (rayOf s) ⌝ }
+{
+    let x = square(s.x);
+    let y = square(s.y);
+    let z = square(s.z);
+    x + y + z
+}
