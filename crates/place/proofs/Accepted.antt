@@ -7,19 +7,28 @@ use native.Mathlib.Omega.{arith}
 use lib.Dec.{eqb, ltb}
 use borrow.Author.Tests.{not-false}
 use Rattle.axis.specs.declared.Axis.{Axis}
-use Rattle.axis.specs.Leg.{moving}
+use Rattle.axis.specs.Leg.{planes, moving, Slab}
 use Rattle.axis.specs.Codes.{Limits, inside, Row, row, first, planesOut, axisCode}
 use Rattle.axis.proofs.Flag.{or-left, or-right}
 use Rattle.axis.proofs.Bounds.{AxisOk, axis-ok}
 use Rattle.ray.specs.declared.Grid.{Grid}
 use Rattle.ray.specs.declared.Ray.{Ray}
-use Rattle.ray.specs.Length.{Side, X, Y, Z, leg}
+use Rattle.ray.specs.Length.{Side, X, Y, Z, leg, volume, array}
 use Rattle.ray.specs.Codes.{gridRows, someLeg, endRows}
 
 abbrev pub side : Grid → Side → Axis
 side g X = g .x
 side g Y = g .y
 side g Z = g .z
+
+-- the array's two planes on one axis
+abbrev pub slab : Axis → Slab
+slab a = record { lo = planes a .at 0; hi = planes a .at (a .n) }
+
+pub array-is : (g : Grid) (s : Side) → array (volume g) s ≡ slab (side g s)
+array-is g X = refl
+array-is g Y = refl
+array-is g Z = refl
 
 of-three : (refuses : Side → Bool) → (refuses X || (refuses Y || refuses Z)) ≡ false → (s : Side) → refuses s ≡ false
 of-three refuses h X = or-left (refuses X) _ h

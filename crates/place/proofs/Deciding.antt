@@ -69,25 +69,24 @@ scale : (t : Bool) (c y z n : ℕ) → y ≡ z * n → cond t (c * n) y ≡ cond
 scale true c y z n e = rw (mul-one c)
 scale false c y z n e = e
 
-module _ (l : Leg) (s : Slab) (n d : ℕ) (e : factor l * n ≡ d) (z : Sized (stretchOf l s)) where
-  regroup : (c : ℕ) → c * d ≡ c * n * factor l
-  regroup c = rw (sym e) (simp (mul-assoc, mul-comm, mul-left-comm))
+module _ (l : Leg) (s : Slab) (n : ℕ) where
+  pub enters-is : enters n l s ≡ enters 1 l s * n
+  enters-is = scale (moving l) (min (run l (s .lo)) (run l (s .hi))) 0 0 n (sym (zero-mul n))
 
-  enter-is : Is (stretchOf l s .enter) (enters n l s) d
-  enter-is = record {
-    some = z .some;
-    small = z .enter;
-    same = regroup (enters 1 l s) ∙ ap (λ (k : ℕ). k * factor l) (sym (scale (moving l) (min (run l (s .lo)) (run l (s .hi))) 0 0 n (sym (zero-mul n))));
-  }
+  pub leaves-is : leaves n l s ≡ leaves 1 l s * n
+  leaves-is = scale (moving l) (max (run l (s .lo)) (run l (s .hi))) n 1 n (sym (one-mul n))
 
-  leave-is : Is (stretchOf l s .leave) (leaves n l s) d
-  leave-is = record {
-    some = z .some′;
-    small = z .leave;
-    same = regroup (leaves 1 l s) ∙ ap (λ (k : ℕ). k * factor l) (sym (scale (moving l) (max (run l (s .lo)) (run l (s .hi))) n 1 n (sym (one-mul n))));
-  }
+  module _ (d : ℕ) (e : factor l * n ≡ d) (z : Sized (stretchOf l s)) where
+    regroup : (c : ℕ) → c * d ≡ c * n * factor l
+    regroup c = rw (sym e) (simp (mul-assoc, mul-comm, mul-left-comm))
 
-share : (r : Ray) (s : Side) → factor (leg r s) * rest r s ≡ dOf r
+    enter-is : Is (stretchOf l s .enter) (enters n l s) d
+    enter-is = record { some = z .some; small = z .enter; same = regroup (enters 1 l s) ∙ ap (λ (k : ℕ). k * factor l) (sym enters-is) }
+
+    leave-is : Is (stretchOf l s .leave) (leaves n l s) d
+    leave-is = record { some = z .some′; small = z .leave; same = regroup (leaves 1 l s) ∙ ap (λ (k : ℕ). k * factor l) (sym leaves-is) }
+
+pub share : (r : Ray) (s : Side) → factor (leg r s) * rest r s ≡ dOf r
 share r X = refl
 share r Y = mul-left-comm _ _ _
 share r Z = simp (mul-assoc, mul-comm, mul-left-comm)

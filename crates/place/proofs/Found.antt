@@ -1,27 +1,23 @@
--- What the code finds of a ray is the answer that document 01 asks for, and on a hit αmin and αmax as small fractions, at any
--- limits up to half of 2 ^ 20. Assumes nothing.
+-- What is found of a ray: whether it is refused, misses or hits as document 01 says, and on a hit αmin and αmax as small fractions,
+-- at any limits up to half of 2 ^ 20. Assumes nothing.
 use Prim.Native.Nat.{ℕ, _+_, _^_, _≤_, _<_}
-use mathlib.Core.Path.{_≡_, refl, sym, ap, _∙_, subst}
+use mathlib.Core.Path.{_≡_, refl, sym, ap, _∙_}
 use mathlib.Core.Bool.{Bool, true, false, not, _||_, cond}
 use native.Mathlib.Decide.{ℕ-discrete}
 use native.Mathlib.Omega.{arith}
 use lib.Dec.{eqb, leb}
-use lib.Ieee.{binary64, round}
-use lib.Ieee.Scale.{round-same}
 use borrow.Author.Tests.{eq-eqb, ne-eqb, eqb-true, leb-false, not-false}
 use Rattle.axis.specs.Codes.{Limits}
 use Rattle.axis.proofs.Flag.{lt-not-le, or-left, or-right}
 use Rattle.ray.specs.declared.Grid.{Grid}
 use Rattle.ray.specs.declared.Ray.{Ray}
 use Rattle.ray.specs.Length.{Side, X, Y, Z, leg, dOf, volume, array, start, stop, holds, misses}
-use Rattle.place.specs.declared.Place.{Place}
-use Rattle.place.specs.declared.Place.the-variants as place
 use Rattle.place.specs.declared.fraction.Fraction.{Fraction}
 use Rattle.place.specs.declared.crossing.Stretch.{Stretch}
 use Rattle.place.specs.declared.crossing.Crossing.{Crossing}
 use Rattle.place.specs.declared.crossing.Crossing.the-variants.{Refused, Miss, Through}
 use Rattle.place.specs.Deciding.{stretchOf, αmin, αmax, joinedOf, crossingOf}
-use Rattle.place.specs.Answers.{refusalOf, placeOf}
+use Rattle.place.specs.Answers.{refusalOf}
 use Rattle.place.proofs.Accepted.{Accepted, accepted}
 use Rattle.place.proofs.Deciding.{Is, below-is, αmin-is, αmax-is}
 use Rattle.place.proofs.Sizes.{all-sized, d-some}
@@ -37,18 +33,6 @@ through : (t u : Bool) (c : ℕ) (e′ l′ e l : Fraction) → cond t (cond u M
 through true false c e′ l′ e l h = (refl, (refl, (cc, cc)))
 through true true c e′ l′ e l h = let z : _≡_ {A = ℕ} 0 1 = cc in absurd (omega arith)
 through false u c e′ l′ e l h = let z : _≡_ {A = ℕ} 0 1 = cc in absurd (omega arith)
-
-abbrev pub placed : Crossing → Place
-placed (Refused c) = place.Refused c
-placed Miss = place.Miss
-placed (Through e l) = place.Hit (round binary64 false (e .num) (e .den)) (round binary64 false (l .num) (l .den))
-
-each-way : (u : Bool) (x y : Crossing) → placed (cond u x y) ≡ cond u (placed x) (placed y)
-each-way true x y = refl
-each-way false x y = refl
-
-nearest-is : (f : Fraction) (n d : ℕ) → 0 < d → Is f n d → round binary64 false (f .num) (f .den) ≡ round binary64 false n d
-nearest-is f n d D F = round-same binary64 false (f .num) (f .den) n d (F .some) D (F .same)
 
 module _ (m : Limits) (g : Grid) (r : Ray) where
   abbrev on : Side → Stretch
@@ -82,18 +66,6 @@ module _ (m : Limits) (g : Grid) (r : Ray) where
       | no h ↦ rw (ne-eqb (refusalOf m g r) 0 h) refl
     ]
 
-    -- the floats nearest to what was found
-    pub place-is : placed (crossingOf m g r) ≡ placeOf m g r
-    unfolding placeOf
-    place-is = elim (ℕ-discrete (refusalOf m g r) 0) [
-      | yes h ↦
-          rw (crossing-is, eq-eqb (refusalOf m g r) 0 h)
-          (each-way (misses (volume g) r) Miss (Through enter leave)
-          ∙ ap (cond (misses (volume g) r) place.Miss) (let ok = accepted m g r h in
-          rw (nearest-is enter _ (dOf r) (d-some m room g r ok) (enter-is ok), nearest-is leave _ (dOf r) (d-some m room g r ok) (leave-is ok))))
-      | no h ↦ rw (crossing-is, ne-eqb (refusalOf m g r) 0 h) refl
-    ]
-
     meets : misses (volume g) r ≡ false → (holds r (array (volume g)) ≡ true) × (start r (array (volume g)) < stop r (array (volume g)))
     unfolding misses
     meets h = (not-false _ (or-right (leb (stop r (array (volume g))) _) _ h), leb-false _ _ (or-left (leb (stop r (array (volume g))) _) _ h))
@@ -105,14 +77,22 @@ module _ (m : Limits) (g : Grid) (r : Ray) where
       pub enters : Is e (start r (array (volume g))) (dOf r)
       pub leaves : Is l (stop r (array (volume g))) (dOf r)
 
+    hit-of : Accepted m g r → misses (volume g) r ≡ false → Hit enter leave
+    hit-of ok h = record { ok = ok; held = meets h .0; strict = meets h .1; enters = enter-is ok; leaves = leave-is ok }
+
     pub hit : (e l : Fraction) → crossingOf m g r ≡ Through e l → Hit e l
     hit e l h =
         let t = through (eqb (refusalOf m g r) 0) (misses (volume g) r) (refusalOf m g r) enter leave e l (sym crossing-is ∙ h) in
-        let ok = accepted m g r (eqb-true (refusalOf m g r) 0 (t .0)) in
-        record {
-          ok = ok;
-          held = meets (t .1 .0) .0;
-          strict = meets (t .1 .0) .1;
-          enters = subst (λ (f : Fraction). Is f (start r (array (volume g))) (dOf r)) (t .1 .1 .0) (enter-is ok);
-          leaves = subst (λ (f : Fraction). Is f (stop r (array (volume g))) (dOf r)) (t .1 .1 .1) (leave-is ok);
-        }
+        rw (t .1 .1 .0, t .1 .1 .1) at (hit-of (accepted m g r (eqb-true (refusalOf m g r) 0 (t .0))) (t .1 .0))
+
+    -- an answer made of what was found, where y is that of a hit
+    module _ {A : Type 0} (f : Crossing → A) (y : A) (each : (e l : Fraction) → Hit e l → f (Through e l) ≡ y) where
+      on-hit : (u : Bool) → misses (volume g) r ≡ u → Accepted m g r → f (cond u Miss (Through enter leave)) ≡ cond u (f Miss) y
+      on-hit true h ok = refl
+      on-hit false h ok = each enter leave (hit-of ok h)
+
+      pub answer-is : f (crossingOf m g r) ≡ cond (eqb (refusalOf m g r) 0) (cond (misses (volume g) r) (f Miss) y) (f (Refused (refusalOf m g r)))
+      answer-is = elim (ℕ-discrete (refusalOf m g r) 0) [
+        | yes h ↦ rw (crossing-is, eq-eqb (refusalOf m g r) 0 h) (on-hit (misses (volume g) r) refl (accepted m g r h))
+        | no h ↦ rw (crossing-is, ne-eqb (refusalOf m g r) 0 h) refl
+      ]

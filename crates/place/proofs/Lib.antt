@@ -6,5 +6,10 @@ pub mod Sizes
 pub mod Found
 pub mod Quotient
 pub mod Rounded
-pub mod Order
+pub mod Placed
 pub mod Bench
+pub mod Difference
+pub mod Signed
+pub mod Within
+pub mod OnLeg
+pub mod Pointed

@@ -28,13 +28,13 @@ abs-is (pos zero) = refl
 abs-is (pos (suc n)) = omega arith
 abs-is (negsuc n) = omega arith
 
-neg-minus : (a b : ℤ) → negℤ (a -ℤ b) ≡ b -ℤ a
+pub neg-minus : (a b : ℤ) → negℤ (a -ℤ b) ≡ b -ℤ a
 neg-minus a b = negℤ-+ℤ a (negℤ b) ∙ ap (λ (z : ℤ). negℤ a +ℤ z) (negℤ-negℤ b) ∙ +ℤ-comm (negℤ a) b
 
 abs-minus : (a b : ℤ) → natAbs (a -ℤ b) ≡ natural (a -ℤ b) + natural (b -ℤ a)
 abs-minus a b = abs-is (a -ℤ b) ∙ ap (λ (z : ℤ). natural (a -ℤ b) + natural z) (neg-minus a b)
 
-abs-pos : (a b : ℕ) → natAbs (pos a -ℤ pos b) ≡ (a - b) + (b - a)
+pub abs-pos : (a b : ℕ) → natAbs (pos a -ℤ pos b) ≡ (a - b) + (b - a)
 abs-pos a b = abs-minus (pos a) (pos b) ∙ rw (natural-pos a b, natural-pos b a)
 
 module _ (k : ℕ) where
@@ -71,26 +71,26 @@ module _ (k : ℕ) where
       )
 
 -- on numbers without a sign
+abbrev pub plain : ℕ → ℕ → ℕ → ℕ → Stretch
+plain lo hi p q = stretchOf (record { p = pos p; q = pos q }) (record { lo = pos lo; hi = pos hi })
+
+abbrev pub leap : ℕ → ℕ → ℕ → Stretch
+leap a b d = record { held = true; enter = record { num = a; den = d }; leave = record { num = b; den = d } }
+
 module _ (lo hi p q : ℕ) (h : lo ≤ hi) where
-  abbrev pub plain : Stretch
-  plain = stretchOf (record { p = pos p; q = pos q }) (record { lo = pos lo; hi = pos hi })
-
-  abbrev pub leap : ℕ → ℕ → ℕ → Stretch
-  leap a b d = record { held = true; enter = record { num = a; den = d }; leave = record { num = b; den = d } }
-
-  pub rising : p < q → plain ≡ leap (lo - p) (hi - p) (q - p)
+  pub rising : p < q → plain lo hi p q ≡ leap (lo - p) (hi - p) (q - p)
   rising l =
       let e : min (lo - p) (hi - p) * 1 ≡ lo - p = omega arith in
       let f : max (lo - p) (hi - p) * 1 ≡ hi - p = omega arith in
       let d : (q - p) + (p - q) ≡ q - p = omega arith in
       rw (lt-ltb p q l, natural-pos lo p, natural-pos hi p, abs-pos q p, e, f, d)
 
-  pub falling : q < p → plain ≡ leap (p - hi) (p - lo) (p - q)
+  pub falling : q < p → plain lo hi p q ≡ leap (p - hi) (p - lo) (p - q)
   falling l =
       let e : min (p - lo) (p - hi) * 1 ≡ p - hi = omega arith in
       let f : max (p - lo) (p - hi) * 1 ≡ p - lo = omega arith in
       let d : (q - p) + (p - q) ≡ p - q = omega arith in
       rw (le-ltb p q (omega arith), lt-ltb q p l, natural-pos p lo, natural-pos p hi, abs-pos q p, e, f, d)
 
-  pub standing : p ≡ q → plain ≡ record { held = leb lo p && ltb p hi; enter = record { num = 0; den = 1 }; leave = record { num = 1; den = 1 } }
+  pub standing : p ≡ q → plain lo hi p q ≡ record { held = leb lo p && ltb p hi; enter = record { num = 0; den = 1 }; leave = record { num = 1; den = 1 } }
   standing l = rw (le-ltb p q (omega arith), le-ltb q p (omega arith))

@@ -1,8 +1,12 @@
 // The place call and the point call.
 ghost use mathlib.Core.Path.{_≡_};
 ghost use Rattle.axis.specs.Codes.{bench};
-ghost use Rattle.place.specs.Answers.{placeOf};
+ghost use Rattle.place.specs.Answers.{placeOf, pointsOf};
+use crate::Mark;
 use crate::Place;
+use crate::Point;
+use crate::Points;
+use crate::coordinate::point_at;
 use crate::crossing::Crossing;
 use crate::crossing::across;
 use crate::fraction::quotient;
@@ -20,6 +24,41 @@ pub fn place(g: Grid, r: Ray) -> Place
             let enter = quotient(e);
             let leave = quotient(l);
             Place::Hit { enter, leave }
+        }
+    }
+}
+
+pub fn points(g: Grid, r: Ray) -> Points
+    ensures { λ a. ⌜ a ≡ pointsOf bench g r ⌝ }
+{
+    let nowhere = Point {
+        x: 0.0,
+        y: 0.0,
+        z: 0.0,
+    };
+    let c = across(g, r);
+    match c {
+        Crossing::Refused(code) => {
+            let mark = Mark::Refused(code);
+            Points {
+                mark,
+                enter: nowhere,
+                leave: nowhere,
+            }
+        }
+        Crossing::Miss => {
+            let mark = Mark::Miss;
+            Points {
+                mark,
+                enter: nowhere,
+                leave: nowhere,
+            }
+        }
+        Crossing::Through(e, l) => {
+            let mark = Mark::Hit;
+            let enter = point_at(r, e);
+            let leave = point_at(r, l);
+            Points { mark, enter, leave }
         }
     }
 }

@@ -7,7 +7,8 @@ use Rattle.place.specs.declared.fraction.Fraction.{Fraction}
 use Rattle.place.specs.declared.crossing.Crossing.{Crossing}
 use Rattle.place.specs.declared.crossing.Crossing.the-variants.{Miss, Through}
 use Rattle.place.specs.Answers.{placeOf}
-use Rattle.place.proofs.Found.{placed, place-is, Hit, hit}
+use Rattle.place.proofs.Found.{Hit, hit}
+use Rattle.place.proofs.Placed.{placed, place-is}
 use borrow.Author.Needs.{needs}
 use Rattle.place.proofs.call.place.Statement.{statement}
 use Rattle.place.proofs.call.place.Tie as tie
