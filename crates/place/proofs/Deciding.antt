@@ -89,7 +89,7 @@ module _ (l : Leg) (s : Slab) (n : ℕ) where
 pub share : (r : Ray) (s : Side) → factor (leg r s) * rest r s ≡ dOf r
 share r X = refl
 share r Y = mul-left-comm _ _ _
-share r Z = simp (mul-assoc, mul-comm, mul-left-comm)
+share r Z = simp (mul-assoc, mul-comm)
 
 module _ (r : Ray) (b : Side → Slab) (D : 0 < dOf r) where
   abbrev on : Side → Stretch

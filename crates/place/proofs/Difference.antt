@@ -23,7 +23,7 @@ pub diff-size : (a b : ℕ) → natAbs (pos a -ℤ pos b) ≤ a + b
 diff-size a b = omega (arith, abs-pos a b)
 
 -- two differences of one number
-pub diff-same : (a b c d : ℕ) → a + d ≡ c + b → pos a -ℤ pos b ≡ pos c -ℤ pos d
+diff-same : (a b c d : ℕ) → a + d ≡ c + b → pos a -ℤ pos b ≡ pos c -ℤ pos d
 diff-same a b c d s = elim (decLe b a) [
   | yes h ↦ let e : a - b ≡ c - d = omega arith in diff-ge a b h ∙ ap pos e ∙ sym (diff-ge c d (omega arith))
   | no h ↦ let e : b - a ≡ d - c = omega arith in diff-le a b (omega arith) ∙ ap (λ (n : ℕ). negℤ (pos n)) e ∙ sym (diff-le c d (omega arith))

@@ -15,7 +15,6 @@ use Rattle.axis.specs.Codes.{Limits, inside}
 use Rattle.axis.proofs.Shift.{shift, low-add}
 use Rattle.axis.proofs.Bounds.{inside-low, AxisOk}
 use Rattle.ray.specs.Length.{leg, holds}
-use Rattle.place.specs.declared.Mark.the-variants as mark
 use Rattle.place.specs.declared.fraction.Fraction.{Fraction}
 use Rattle.place.specs.Deciding.{stretchOf}
 use Rattle.place.specs.Answers.{coordinate}

@@ -1,5 +1,5 @@
 -- The order of rounded fractions that are not negative: two fractions apart stay apart. Assumes nothing.
-use mathlib.Core.Path.{_≡_, refl, sym, ap, _∙_, subst}
+use mathlib.Core.Path.{_≡_, refl, sym, ap, subst}
 use mathlib.Core.Logic.{_⊎_, inl, inr}
 use Prim.Native.Nat.{ℕ, zero, suc, _+_, _*_, _/_, _%_, _^_, _≤_, _<_, zero-le}
 use native.Mathlib.Nat.{le-trans, le-of-eq, le-of-lt, lt-of-lt-of-le, lt-irrefl, mul-comm, mul-assoc, mul-right-comm, mul-one, one-mul, zero-mul, mul-pos, zero-lt-suc, mul-le-mul, mul-le-mul-right, mul-lt-mul-of-pos-right, le-of-mul-le-mul-right, le-suc, suc-mul, add-mul, div-mul-le-self, div-add-mod', mod-lt}
@@ -14,7 +14,7 @@ use lib.Ieee.{Float, nan, inf, fin, Format, binary64, prec, emax, low, up, down,
 use lib.Ieee.Fits.{round-is, round-fits, up-pos, down-pos, and-l}
 use lib.Ieee.Exact.{HasValue, round-exact, odd-sign}
 use lib.Ieee.Order.{transfer, le-of-values, round-mono}
-use lib.Ieee.Scale.{round-same, round-val, round-under, finite, grid}
+use lib.Ieee.Scale.{round-val, round-under, finite, grid}
 use lib.Ieee.Back.{round-whole}
 
 or-split : (a b : Bool) → T (a || b) → T a ⊎ T b
@@ -143,16 +143,9 @@ zero64 = fin false 0 (pos 0)
 abbrev pub one64 : Float
 one64 = fin false 1 (pos 0)
 
-pub zero-is : round binary64 false 0 1 ≡ zero64
-unfolding round units odd size span climb
-zero-is = refl
-
-pub one-is : round binary64 false 1 1 ≡ one64
+one-is : round binary64 false 1 1 ≡ one64
 unfolding round units odd size span climb trailingZeros
 one-is = refl
-
-pub round-zero : (b : ℕ) → 0 < b → round binary64 false 0 b ≡ zero64
-round-zero b B = round-same binary64 false 0 b 0 1 B (lit< tt) (omega arith) ∙ zero-is
 
 -- "zero is positive zero"
 abbrev pub ZeroPlain : Float → Type 0

@@ -48,7 +48,7 @@ units-neg f q k = go (ltb (q * 2 ^ k) (2 ^ (low f + suc (emax f))))
     go true = odd-neg (suc (prec f)) q k (low f)
     go false = refl
 
-pub round-neg : (f : Format) (a b : ℕ) → round f true a b ≡ neg (round f false a b)
+round-neg : (f : Format) (a b : ℕ) → round f true a b ≡ neg (round f false a b)
 round-neg f a b = round-is f true a b ∙ units-neg f _ _ ∙ ap neg (sym (round-is f false a b))
 
 -- the order, with signs
@@ -111,7 +111,7 @@ nearest-mono (negsuc a) (negsuc c) b d B D h =
     (neg-le-neg (round binary64 false (suc a) b) (round binary64 false (suc c) d) (round-bare binary64 (suc a) b) (round-bare binary64 (suc c) d)
     (round-mono binary64 (suc c) d (suc a) b D B (neg-order (suc a * d) (suc c * b) h)))
 
-pub ofInt-is : (z : ℤ) → ofInt binary64 z ≡ nearest z 1
+ofInt-is : (z : ℤ) → ofInt binary64 z ≡ nearest z 1
 unfolding ofInt
 ofInt-is (pos n) = refl
 ofInt-is (negsuc n) = refl

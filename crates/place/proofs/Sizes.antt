@@ -54,7 +54,7 @@ module _ (m : Limits) (a : Axis) (l : Leg) (ok : AxisOk m a) (from : inside m (l
       → stretchOf (record { p = pos p₀; q = pos q₀ }) (record { lo = pos lo₀; hi = pos (lo₀ + a .n * a .d) }) ≡ stretchOf l (slab a)
   worked-out lo₀ p₀ q₀ el ep eq = rw (el, ep, eq) (sym raised-axis)
 
-  pub sized : m .coord + m .coord ≤ 2 ^ 20 → Sized (stretchOf l (slab a))
+  sized : m .coord + m .coord ≤ 2 ^ 20 → Sized (stretchOf l (slab a))
   sized room =
       let p = inside-most m (l .p) from in
       let q = inside-most m (l .q) to in

@@ -1,7 +1,7 @@
 // The place call and the point call.
 ghost use mathlib.Core.Path.{_≡_};
 ghost use Rattle.axis.specs.Codes.{bench};
-ghost use Rattle.place.specs.Answers.{placeOf, pointsOf};
+ghost use Rattle.place.specs.Answers.{placeOf, nowhere, pointsOf};
 use crate::Mark;
 use crate::Place;
 use crate::Point;
@@ -28,32 +28,29 @@ pub fn place(g: Grid, r: Ray) -> Place
     }
 }
 
-pub fn points(g: Grid, r: Ray) -> Points
-    ensures { λ a. ⌜ a ≡ pointsOf bench g r ⌝ }
+// No points: all six coordinates are positive zero.
+fn unplaced(mark: Mark) -> Points
+    ensures { λ a. ⌜ a ≡ nowhere mark ⌝ }
 {
-    let nowhere = Point {
+    let p = Point {
         x: 0.0,
         y: 0.0,
         z: 0.0,
     };
+    Points {
+        mark,
+        enter: p,
+        leave: p,
+    }
+}
+
+pub fn points(g: Grid, r: Ray) -> Points
+    ensures { λ a. ⌜ a ≡ pointsOf bench g r ⌝ }
+{
     let c = across(g, r);
     match c {
-        Crossing::Refused(code) => {
-            let mark = Mark::Refused(code);
-            Points {
-                mark,
-                enter: nowhere,
-                leave: nowhere,
-            }
-        }
-        Crossing::Miss => {
-            let mark = Mark::Miss;
-            Points {
-                mark,
-                enter: nowhere,
-                leave: nowhere,
-            }
-        }
+        Crossing::Refused(code) => unplaced(Mark::Refused(code)),
+        Crossing::Miss => unplaced(Mark::Miss),
         Crossing::Through(e, l) => {
             let mark = Mark::Hit;
             let enter = point_at(r, e);

@@ -1,7 +1,7 @@
 // A fraction of two whole numbers: which of two is the greater, and the float nearest to it.
 ghost use mathlib.Core.Path.{_≡_};
 ghost use mathlib.Core.Bool.{false};
-ghost use Prim.Native.Nat.{_<_};
+ghost use Prim.Native.Nat.{_^_, _≤_, _<_};
 ghost use lib.Ieee.{binary64, round};
 ghost use Rattle.place.specs.Deciding.{Small, below, greater, lesser};
 
@@ -39,7 +39,7 @@ pub fn lesser_of(a: Fraction, b: Fraction) -> Fraction
 
 // Both numbers are converted with nothing lost, so the one division rounds once.
 pub fn quotient(f: Fraction) -> f64
-    requires { ⌜ Small f ⌝ }
+    requires { ⌜ (f .num ≤ 2 ^ 53) × (f .den ≤ 2 ^ 53) ⌝ }
     requires { ⌜ 0 < f .den ⌝ }
     ensures { λ r. ⌜ r ≡ round binary64 false (f .num) (f .den) ⌝ }
 {

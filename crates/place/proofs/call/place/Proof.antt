@@ -40,10 +40,10 @@ enum-known-c-2 : tie.Need-enum-known-c-2
 enum-known-c-2 c = search needs
 
 quotient-requires : tie.Need-quotient-requires
-quotient-requires c κs = let f = hits (c .before .before .before) _ _ (c .before .c2 .given .1) .enters in (f .small, f .some)
+quotient-requires c κs = let f = hits (c .before .before .before) _ _ (c .before .c2 .given .1) .enters in ((omega (arith, f .small .0), omega (arith, f .small .1)), f .some)
 
 quotient-requires-2 : tie.Need-quotient-requires-2
-quotient-requires-2 c κs = let f = hits (c .before .before .before .before) _ _ (c .before .before .c2 .given .1) .leaves in (f .small, f .some)
+quotient-requires-2 c κs = let f = hits (c .before .before .before .before) _ _ (c .before .before .c2 .given .1) .leaves in ((omega (arith, f .small .0), omega (arith, f .small .1)), f .some)
 
 returns : tie.Need-returns
 returns c = answer (c .before .before .before) _ (c .before .c .given .1)

@@ -1,7 +1,6 @@
 use native.Mathlib.Omega.{arith}
 use mathlib.Core.Path.{_≡_, sym, ap, _∙_}
 use mathlib.Core.Bool.{true}
-use lib.Ieee.{odd, ofFields, ofBits}
 use Rattle.axis.specs.Codes.{bench, inside}
 use Rattle.ray.specs.declared.Grid.{Grid}
 use Rattle.ray.specs.declared.Ray.{Ray}
@@ -41,8 +40,14 @@ across-requires c κs = search needs
 enum-known-c : tie.Need-enum-known-c
 enum-known-c c = search needs
 
+unplaced-requires : tie.Need-unplaced-requires
+unplaced-requires c κs = search needs
+
 enum-told : tie.Need-enum-told
 enum-told c = search needs
+
+unplaced-requires-2 : tie.Need-unplaced-requires-2
+unplaced-requires-2 c κs = search needs
 
 enum-known-c-2 : tie.Need-enum-known-c-2
 enum-known-c-2 c = search needs
@@ -62,12 +67,10 @@ point-at-requires-2 c κs =
     (i X, (i Y, (i Z, (H .leaves .small, (leave-low bench (g k) (r k) (omega arith) _ _ H, H .leaves .some)))))
 
 returns : tie.Need-returns
-unfolding ofBits ofFields odd
-returns c = answer (c .before .before .before) _ (c .before .c .given .1)
+returns c = c .unplaced .ensures ∙ answer (c .before .before .before .before) _ (c .before .before .c .given .1)
 
 returns-2 : tie.Need-returns-2
-unfolding ofBits ofFields odd
-returns-2 c = answer (c .before .before) Miss (c .enum-told .given .1)
+returns-2 c = c .unplaced2 .ensures ∙ answer (c .before .before .before) Miss (c .before .enum-told .given .1)
 
 returns-3 : tie.Need-returns-3
 returns-3 c = rw (c .before .point-at .ensures, c .point-at2 .ensures) (answer (c .before .before .before .before .before) _ (c .before .before .before .c2 .given .1))
@@ -78,7 +81,9 @@ points-spec =
     (tie.spec
     across-requires
     enum-known-c
+    unplaced-requires
     enum-told
+    unplaced-requires-2
     enum-known-c-2
     point-at-requires
     point-at-requires-2
