@@ -6,10 +6,11 @@ pub mod Sizes
 pub mod Found
 pub mod Quotient
 pub mod Rounded
-pub mod Placed
-pub mod Bench
-pub mod Difference
+pub mod Shown
 pub mod Signed
+pub mod Difference
 pub mod Within
 pub mod OnLeg
+pub mod Placed
 pub mod Pointed
+pub mod Bench

@@ -23,7 +23,7 @@ use Rattle.place.proofs.Deciding.{Is, up-to-one}
 use Rattle.place.proofs.Sizes.{lo, hi, lo-is, hi-is, raised-axis}
 use Rattle.place.proofs.Difference.{told, diff-times, diff-order, point-is}
 use Rattle.place.proofs.Signed.{nearest-same, exact, at-least, at-most, nearest-plain}
-use Rattle.place.proofs.Rounded.{ZeroPlain}
+use Rattle.place.proofs.Shown.{ZeroPlain}
 use Rattle.place.proofs.Within.{spot, In, within, same-spot}
 
 -- the exact value of a coordinate, times d

@@ -1,5 +1,5 @@
--- The place call's answer from what was found, and what document 01 says of every hit's two floats, for every grid and ray that the place call accepts, at any limits up to half
--- of 2 ^ 20. Assumes nothing.
+-- The place call's answer from what was found, and what document 01 says of every hit's two floats, for every grid and ray that the
+-- call accepts, at any limits up to half of 2 ^ 20. Assumes nothing.
 use Prim.Native.Nat.{ℕ, _+_, _*_, _^_, _≤_, _<_}
 use mathlib.Core.Path.{_≡_, refl, _∙_}
 use native.Mathlib.Omega.{arith}
@@ -21,7 +21,7 @@ use Rattle.place.specs.Deciding.{crossingOf}
 use Rattle.place.specs.Answers.{placeOf}
 use Rattle.place.proofs.Deciding.{Is, below-is, up-to-one}
 use Rattle.place.proofs.Sizes.{d-some}
-use Rattle.place.proofs.Rounded.{Shown, shown}
+use Rattle.place.proofs.Shown.{Shown, shown}
 use Rattle.place.proofs.Found.{Hit, hit, answer-is}
 
 abbrev pub placed : Crossing → Place
@@ -33,11 +33,14 @@ nearest-is : (f : Fraction) (n d : ℕ) → 0 < d → Is f n d → round binary6
 nearest-is f n d D F = round-same binary64 false (f .num) (f .den) n d (F .some) D (F .same)
 
 module _ (m : Limits) (g : Grid) (r : Ray) (room : m .coord + m .coord ≤ 2 ^ 20) where
+  abbrev hitting : Place
+  hitting = place.Hit (round binary64 false (start r (array (volume g))) (dOf r)) (round binary64 false (stop r (array (volume g))) (dOf r))
+
   module _ (e l : Fraction) (H : Hit m g r room e l) where
     some : 0 < dOf r
     some = d-some m room g r (H .ok)
 
-    rounded : placed (Through e l) ≡ place.Hit (round binary64 false (start r (array (volume g))) (dOf r)) (round binary64 false (stop r (array (volume g))) (dOf r))
+    rounded : placed (Through e l) ≡ hitting
     rounded = rw (nearest-is e _ (dOf r) some (H .enters), nearest-is l _ (dOf r) some (H .leaves))
 
     pub leave-low : l .num ≤ l .den
@@ -51,7 +54,7 @@ module _ (m : Limits) (g : Grid) (r : Ray) (room : m .coord + m .coord ≤ 2 ^ 2
 
   pub place-is : placed (crossingOf m g r) ≡ placeOf m g r
   unfolding placeOf
-  place-is = answer-is m g r room placed (place.Hit (round binary64 false (start r (array (volume g))) (dOf r)) (round binary64 false (stop r (array (volume g))) (dOf r))) rounded
+  place-is = answer-is m g r room placed hitting rounded
 
   from-found : (k : Crossing) (enter leave : Float) → crossingOf m g r ≡ k → placed k ≡ place.Hit enter leave → Shown enter leave
   from-found (Refused c) enter leave h p = let z : _≡_ {A = ℕ} 0 1 = cc in absurd (omega arith)

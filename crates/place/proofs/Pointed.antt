@@ -28,7 +28,7 @@ use Rattle.place.proofs.Deciding.{Is, enters-is, leaves-is, share}
 use Rattle.place.proofs.Sizes.{lo, hi, d-some}
 use Rattle.place.proofs.Difference.{told}
 use Rattle.place.proofs.Signed.{exact}
-use Rattle.place.proofs.Rounded.{ZeroPlain}
+use Rattle.place.proofs.Shown.{ZeroPlain}
 use Rattle.place.proofs.Within.{In, within}
 use Rattle.place.proofs.OnLeg.{exactly, coordinate-is, coordinate-plain, planes-hold}
 use Rattle.place.proofs.Found.{Hit, hit, answer-is}

@@ -1,19 +1,17 @@
 -- The order of rounded fractions that are not negative: two fractions apart stay apart. Assumes nothing.
-use mathlib.Core.Path.{_≡_, refl, sym, ap, subst}
+use mathlib.Core.Path.{_≡_, sym, subst}
 use mathlib.Core.Logic.{_⊎_, inl, inr}
-use Prim.Native.Nat.{ℕ, zero, suc, _+_, _*_, _/_, _%_, _^_, _≤_, _<_, zero-le}
-use native.Mathlib.Nat.{le-trans, le-of-eq, le-of-lt, lt-of-lt-of-le, lt-irrefl, mul-comm, mul-assoc, mul-right-comm, mul-one, one-mul, zero-mul, mul-pos, zero-lt-suc, mul-le-mul, mul-le-mul-right, mul-lt-mul-of-pos-right, le-of-mul-le-mul-right, le-suc, suc-mul, add-mul, div-mul-le-self, div-add-mod', mod-lt}
+use Prim.Native.Nat.{ℕ, suc, _+_, _*_, _/_, _%_, _^_, _≤_, _<_}
+use native.Mathlib.Nat.{le-trans, le-of-eq, le-of-lt, lt-of-lt-of-le, lt-irrefl, mul-comm, mul-assoc, mul-right-comm, mul-one, one-mul, mul-le-mul, mul-le-mul-right, mul-lt-mul-of-pos-right, le-of-mul-le-mul-right, le-suc, suc-mul, add-mul, div-mul-le-self, div-add-mod', mod-lt}
 use native.Mathlib.Omega.{arith}
 use native.Mathlib.Decide.{decLt}
 use mathlib.Core.Bool.{Bool, true, false, not, _&&_, _||_, cond, true≢false}
-use lib.IntN.{ℤ, pos, negsuc}
 use lib.Dec.{T, ltb, eqb, eqb→eq, ltb→lt, lt→ltb, lit<, lit≤}
-use lib.Pow.{pow-pos, pow-lt}
-use lib.Count.{trailingZeros}
-use lib.Ieee.{Float, nan, inf, fin, Format, binary64, prec, emax, low, up, down, odd, units, size, span, climb, round, lt, eq, le, fits}
-use lib.Ieee.Fits.{round-is, round-fits, up-pos, down-pos, and-l}
+use lib.Pow.{pow-pos}
+use lib.Ieee.{Float, nan, inf, fin, Format, binary64, prec, emax, low, up, down, odd, units, round, lt, le}
+use lib.Ieee.Fits.{round-is, down-pos, and-l}
 use lib.Ieee.Exact.{HasValue, round-exact, odd-sign}
-use lib.Ieee.Order.{transfer, le-of-values, round-mono}
+use lib.Ieee.Order.{transfer, round-mono}
 use lib.Ieee.Scale.{round-val, round-under, finite, grid}
 use lib.Ieee.Back.{round-whole}
 
@@ -45,7 +43,7 @@ lt-of-values (fin false m e) (fin true n g) a c b d p q h = absurd (true≢false
 lt-of-values (fin false m e) (fin false n g) a c b d p q h =
     lt→ltb (m * up e * down g) (n * up g * down e) (transfer-lt (m * up e) (n * up g) (down e) (down g) a b c d (down-pos e) (down-pos g) (p .1) (q .1) h)
 
--- ---- a fraction up to 2 ^ 53 rounds to a finite value
+-- a fraction up to 2 ^ 53 rounds to a finite value
 abbrev pub bare : Float → Bool
 bare nan = false
 bare (inf s) = not s
@@ -81,7 +79,7 @@ round-finite a b n B N h =
 pub round-value : (a b n : ℕ) → 0 < b → n ≤ 2 ^ 53 → a ≤ n * b → HasValue (round binary64 false a b) false (grid binary64 a b) (2 ^ low binary64)
 round-value a b n B N h = round-val binary64 a b (round-under binary64 a b (round-finite a b n B N h))
 
--- ---- strictly between: a dyadic number k / 2 ^ 42 is a value of the format
+-- strictly between: a dyadic number k / 2 ^ 42 is a value of the format
 dyadic : (k : ℕ) → k < 2 ^ 53 → HasValue (round binary64 false k (2 ^ 42)) false k (2 ^ 42)
 dyadic k h =
     round-exact binary64 false k (2 ^ 42) k 1032 (pow-pos 42) h
@@ -135,57 +133,3 @@ round-strict a b c d B D hb hd cd h =
 
     ends : (x y k P : ℕ) → 0 < P → x * 2 ^ 42 ≤ k * P → suc k * P ≤ y * 2 ^ 42 → x < y
     ends x y k P h p q = omega (arith, suc-mul k P)
-
--- ---- 0, 1, and what lies between
-abbrev pub zero64 : Float
-zero64 = fin false 0 (pos 0)
-
-abbrev pub one64 : Float
-one64 = fin false 1 (pos 0)
-
-one-is : round binary64 false 1 1 ≡ one64
-unfolding round units odd size span climb trailingZeros
-one-is = refl
-
--- "zero is positive zero"
-abbrev pub ZeroPlain : Float → Type 0
-ZeroPlain x = T (eq x zero64) → x ≡ zero64
-
-no-power : (e : ℤ) → T (eqb (up e * down e) 1) → e ≡ pos 0
-no-power (pos zero) h = refl
-no-power (pos (suc k)) h = absurd (omega (arith, eqb→eq (2 ^ suc k * 1) 1 h, pow-lt {i = 0} {j = suc k} (omega arith)))
-no-power (negsuc k) h = absurd (omega (arith, eqb→eq (1 * 2 ^ suc k) 1 h, pow-lt {i = 0} {j = suc k} (omega arith)))
-
-pub zero-plain : (x : Float) → T (fits binary64 x) → T (bare x) → ZeroPlain x
-unfolding fits eq
-zero-plain nan f b h = absurd b
-zero-plain (inf s) f b h = absurd h
-zero-plain (fin true m e) f b h = absurd b
-zero-plain (fin false zero e) f b h = ap (fin false 0) (no-power e f)
-zero-plain (fin false (suc m) e) f b h =
-    absurd (omega (arith, eqb→eq (suc m * up e * 1) (0 * 1 * down e) (and-l (eqb (suc m * up e * 1) (0 * 1 * down e)) _ h), mul-pos (zero-lt-suc m) (up-pos e)))
-
--- "Always 0 ≤ enter < leave ≤ 1, zero is positive zero."
-pub record Shown (enter leave : Float) : Type 0 where
-  pub from-zero : T (le zero64 enter)
-  pub strict : T (lt enter leave)
-  pub to-one : T (le leave one64)
-  pub finite-enter : T (finite enter)
-  pub finite-leave : T (finite leave)
-  pub plain-enter : ZeroPlain enter
-  pub plain-leave : ZeroPlain leave
-
-pub shown : (a b c d : ℕ) → 0 < b → 0 < d → b ≤ 2 ^ 20 → d ≤ 2 ^ 20 → a ≤ b → c ≤ d → a * d < c * b → Shown (round binary64 false a b) (round binary64 false c d)
-shown a b c d B D hb hd ab cd h =
-    let a1 : a ≤ 1 * b = le-trans ab (le-of-eq (sym (one-mul b))) in
-    let c1 : c ≤ 1 * d = le-trans cd (le-of-eq (sym (one-mul d))) in
-    let X = round-value a b 1 B (lit≤ tt) a1 in
-    record {
-      from-zero = le-of-values zero64 (round binary64 false a b) 0 1 (grid binary64 a b) (2 ^ low binary64) (lit< tt) (pow-pos (low binary64)) (refl, refl) X (le-trans (le-of-eq (zero-mul (2 ^ low binary64))) zero-le);
-      strict = round-strict a b c d B D hb hd cd h;
-      to-one = subst (λ (z : Float). T (le (round binary64 false c d) z)) one-is (round-mono binary64 c d 1 1 D (lit< tt) (le-trans (le-of-eq (mul-one c)) c1));
-      finite-enter = round-finite a b 1 B (lit≤ tt) a1;
-      finite-leave = round-finite c d 1 D (lit≤ tt) c1;
-      plain-enter = zero-plain (round binary64 false a b) (round-fits binary64 false a b) (round-bare binary64 a b);
-      plain-leave = zero-plain (round binary64 false c d) (round-fits binary64 false c d) (round-bare binary64 c d);
-    }

@@ -15,7 +15,8 @@ use lib.Ieee.Fits.{round-is, round-fits, and-l}
 use lib.Ieee.Order.{round-mono}
 use lib.Ieee.Scale.{round-same}
 use Rattle.place.specs.Answers.{nearest}
-use Rattle.place.proofs.Rounded.{bare, round-bare, lt-or-eq, zero64, ZeroPlain, zero-plain}
+use Rattle.place.proofs.Rounded.{bare, round-bare, lt-or-eq}
+use Rattle.place.proofs.Shown.{zero64, ZeroPlain, zero-plain}
 
 -- equal fractions, y / b and z / d
 not-same : (m n : ℕ) → 0 < n → pos m ≡ negℤ (pos n) → ⊥

@@ -2,20 +2,19 @@
 -- Definitions only. Assumes nothing.
 use Prim.Native.Nat.{_*_, _^_, _≤_}
 use mathlib.Core.Bool.{Bool, _&&_, cond}
-use mathlib.Core.List.{_++_}
 use lib.Dec.{eqb, ltb}
 use Rattle.axis.specs.Leg.{Leg, factor, Slab, held, enters, leaves}
-use Rattle.axis.specs.Codes.{Limits, first}
+use Rattle.axis.specs.Codes.{Limits}
 use Rattle.ray.specs.declared.Grid.{Grid}
 use Rattle.ray.specs.declared.Ray.{Ray}
 use Rattle.ray.specs.Length.{Side, X, Y, Z, leg, volume, array}
-use Rattle.ray.specs.Codes.{gridRows, endRows}
 use Rattle.place.specs.declared.fraction.Fraction.{Fraction}
 use Rattle.place.specs.declared.crossing.Stretch.{Stretch}
 use Rattle.place.specs.declared.crossing.Crossing.{Crossing}
 use Rattle.place.specs.declared.crossing.Crossing.the-variants.{Refused, Miss, Through}
+use Rattle.place.specs.Answers.{refusalOf}
 
--- twice the limit on coordinates, and so every difference, is at most this
+-- room for the differences of coordinates within limits up to 524288
 abbrev pub Small : Fraction → Type 0
 Small f = (f .num ≤ 2 ^ 20) × (f .den ≤ 2 ^ 20)
 
@@ -42,6 +41,7 @@ abbrev pub αmin : Stretch → Stretch → Stretch → Fraction
 abbrev pub αmax : Stretch → Stretch → Stretch → Fraction
 αmax x y z = lesser (record { num = 1; den = 1 }) (lesser (x .leave) (lesser (y .leave) (z .leave)))
 
+-- the three axes together: a miss where one does not hold the ray, or where αmax ≤ αmin
 unfoldable pub joinedOf : Stretch → Stretch → Stretch → Crossing
 joinedOf x y z =
     let e = αmin x y z in
@@ -50,6 +50,5 @@ joinedOf x y z =
 
 unfoldable pub crossingOf : Limits → Grid → Ray → Crossing
 crossingOf m g r =
-    let code = first (gridRows m g ++ endRows m r) in
     let on : Side → Stretch = λ s. stretchOf (leg r s) (array (volume g) s) in
-    cond (eqb code 0) (joinedOf (on X) (on Y) (on Z)) (Refused code)
+    cond (eqb (refusalOf m g r) 0) (joinedOf (on X) (on Y) (on Z)) (Refused (refusalOf m g r))

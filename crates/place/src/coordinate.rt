@@ -10,7 +10,7 @@ use crate::fraction::Fraction;
 use axis::Axis;
 use ray::Ray;
 
-// p and q told from the lower limit up, as far apart as f says, times f's denominator: no difference, so no sign.
+// The place f of the way from p to q, times f's denominator. Told from the lower limit up the ends have no sign.
 fn along(p: u64, q: u64, f: Fraction) -> u64
     requires { ⌜ (p ≤ 2 ^ 20) × (q ≤ 2 ^ 20) ⌝ }
     requires { ⌜ Small f ⌝ }

@@ -1,12 +1,11 @@
 // Between which places on the ray it is in the array, each as a fraction over the difference of the axis that decides it.
 ghost use mathlib.Core.Path.{_≡_};
 ghost use mathlib.Core.Bool.{true, _&&_};
-ghost use mathlib.Core.List.{_++_};
 ghost use Prim.Native.Nat.{_-_, _≤_};
 ghost use lib.IntN.{pos};
 ghost use Rattle.axis.specs.Leg.{planes};
-ghost use Rattle.axis.specs.Codes.{bench, inside, first, axisCode};
-ghost use Rattle.ray.specs.Codes.{gridRows, endRows};
+ghost use Rattle.axis.specs.Codes.{bench, inside, axisCode};
+ghost use Rattle.place.specs.Answers.{refusalOf};
 ghost use Rattle.place.specs.Deciding.{Small, stretchOf, joinedOf, crossingOf};
 use crate::fraction::Fraction;
 use crate::fraction::greater_of;
@@ -23,6 +22,7 @@ pub struct Stretch {
     pub leave: Fraction,
 }
 
+// What is found of a ray: a refusal's code, a miss, or αmin and αmax.
 pub enum Crossing {
     Refused(u32),
     Miss,
@@ -30,7 +30,7 @@ pub enum Crossing {
 }
 
 fn refusal(g: Grid, r: Ray) -> u32
-    ensures { λ c. ⌜ c ≡ first (gridRows bench g ++ endRows bench r) ⌝ }
+    ensures { λ c. ⌜ c ≡ refusalOf bench g r ⌝ }
 {
     let code = ray::check::grid_code(g);
     if code == 0 {

@@ -1,3 +1,4 @@
+-- `call::place` meets its contract. Assumes nothing.
 use native.Mathlib.Omega.{arith}
 use mathlib.Core.Path.{_≡_, sym, ap, _∙_}
 use Rattle.axis.specs.Codes.{bench}

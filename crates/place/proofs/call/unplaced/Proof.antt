@@ -1,3 +1,4 @@
+-- `call::unplaced` meets its contract. Assumes nothing.
 use mathlib.Core.Path.{refl}
 use lib.Ieee.{odd, ofFields, ofBits}
 use Rattle.place.proofs.call.unplaced.Statement.{statement}

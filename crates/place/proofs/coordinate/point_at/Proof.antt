@@ -1,3 +1,4 @@
+-- `coordinate::point_at` meets its contract. Assumes nothing.
 use mathlib.Core.Path.{_≡_}
 use mir.Syntax.{w32}
 use mir.Val.{toZ, ofZ}

@@ -1,3 +1,4 @@
+-- `crossing::between` meets its contract. Assumes nothing.
 use native.Mathlib.Omega.{arith}
 use mathlib.Core.Path.{sym}
 use borrow.Author.Tests.{le-leb, lt-leb}

@@ -1,3 +1,4 @@
+-- `crossing::on_axis` meets its contract. Assumes nothing.
 use native.Mathlib.Omega.{arith}
 use mathlib.Core.Path.{_≡_, _∙_}
 use mir.Syntax.{w32}

@@ -1,3 +1,4 @@
+-- `crossing::refusal` meets its contract. Assumes nothing.
 use mathlib.Core.Path.{sym, _∙_}
 use borrow.Author.Tests.{eq-eqb, ne-eqb}
 use Rattle.axis.specs.Codes.{bench}

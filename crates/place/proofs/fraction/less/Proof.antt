@@ -1,3 +1,4 @@
+-- `fraction::less` meets its contract. Assumes nothing.
 use native.Mathlib.Omega.{arith}
 use Rattle.place.proofs.Deciding.{product}
 use borrow.Author.Needs.{needs}

@@ -1,3 +1,4 @@
+-- `fraction::lesser_of` meets its contract. Assumes nothing.
 use mathlib.Core.Path.{sym, _∙_}
 use borrow.Author.Needs.{needs}
 use Rattle.place.proofs.fraction.lesser_of.Statement.{statement}

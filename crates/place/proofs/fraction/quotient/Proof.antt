@@ -1,3 +1,4 @@
+-- `fraction::quotient` meets its contract. Assumes nothing.
 use native.Mathlib.Omega.{arith}
 use lib.IntN.{pos}
 use Rattle.place.proofs.Quotient.{whole-in, quotient-is}
