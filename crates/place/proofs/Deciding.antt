@@ -13,7 +13,7 @@ use Rattle.ray.specs.declared.Ray.{Ray}
 use Rattle.ray.specs.Length.{Side, X, Y, Z, leg, dOf, rest, start, stop}
 use Rattle.place.specs.declared.fraction.Fraction.{Fraction}
 use Rattle.place.specs.declared.crossing.Stretch.{Stretch}
-use Rattle.place.specs.Deciding.{Small, stretchOf, below, greater, lesser, αmin, αmax}
+use Rattle.place.specs.Deciding.{Small, stretchOf, entering, leaving, below, greater, lesser, αmin, αmax}
 
 pub product : (f h : Fraction) → Small f → Small h → f .num * h .den ≤ 2 ^ 20 * 2 ^ 20
 product f h F H = mul-le-mul {n₂ = 2 ^ 20} {m₂ = 2 ^ 20} (F .0) (H .1)
@@ -60,10 +60,9 @@ module _ (f h : Fraction) (a b d : ℕ) (D : 0 < d) (F : Is f a d) (H : Is h b d
 
 -- what one axis leaves of the ray, where its numbers are small
 pub record Sized (x : Stretch) : Type 0 where
-  pub some : 0 < x .enter .den
-  pub some′ : 0 < x .leave .den
-  pub enter : Small (x .enter)
-  pub leave : Small (x .leave)
+  pub some : 0 < x .den
+  pub enter : Small (entering x)
+  pub leave : Small (leaving x)
 
 scale : (t : Bool) (c y z n : ℕ) → y ≡ z * n → cond t (c * n) y ≡ cond t (c * 1) z * n
 scale true c y z n e = rw (mul-one c)
@@ -80,11 +79,11 @@ module _ (l : Leg) (s : Slab) (n : ℕ) where
     regroup : (c : ℕ) → c * d ≡ c * n * factor l
     regroup c = rw (sym e) (simp (mul-assoc, mul-comm, mul-left-comm))
 
-    enter-is : Is (stretchOf l s .enter) (enters n l s) d
+    enter-is : Is (entering (stretchOf l s)) (enters n l s) d
     enter-is = record { some = z .some; small = z .enter; same = regroup (enters 1 l s) ∙ ap (λ (k : ℕ). k * factor l) (sym enters-is) }
 
-    leave-is : Is (stretchOf l s .leave) (leaves n l s) d
-    leave-is = record { some = z .some′; small = z .leave; same = regroup (leaves 1 l s) ∙ ap (λ (k : ℕ). k * factor l) (sym leaves-is) }
+    leave-is : Is (leaving (stretchOf l s)) (leaves n l s) d
+    leave-is = record { some = z .some; small = z .leave; same = regroup (leaves 1 l s) ∙ ap (λ (k : ℕ). k * factor l) (sym leaves-is) }
 
 pub share : (r : Ray) (s : Side) → factor (leg r s) * rest r s ≡ dOf r
 share r X = refl
@@ -96,10 +95,10 @@ module _ (r : Ray) (b : Side → Slab) (D : 0 < dOf r) where
   on s = stretchOf (leg r s) (b s)
 
   module _ (z : (s : Side) → Sized (on s)) where
-    entered : (s : Side) → Is (on s .enter) (enters (rest r s) (leg r s) (b s)) (dOf r)
+    entered : (s : Side) → Is (entering (on s)) (enters (rest r s) (leg r s) (b s)) (dOf r)
     entered s = enter-is (leg r s) (b s) (rest r s) (dOf r) (share r s) (z s)
 
-    left : (s : Side) → Is (on s .leave) (leaves (rest r s) (leg r s) (b s)) (dOf r)
+    left : (s : Side) → Is (leaving (on s)) (leaves (rest r s) (leg r s) (b s)) (dOf r)
     left s = leave-is (leg r s) (b s) (rest r s) (dOf r) (share r s) (z s)
 
     pub αmin-is : Is (αmin (on X) (on Y) (on Z)) (start r b) (dOf r)

@@ -75,7 +75,7 @@ abbrev pub plain : ℕ → ℕ → ℕ → ℕ → Stretch
 plain lo hi p q = stretchOf (record { p = pos p; q = pos q }) (record { lo = pos lo; hi = pos hi })
 
 abbrev pub leap : ℕ → ℕ → ℕ → Stretch
-leap a b d = record { held = true; enter = record { num = a; den = d }; leave = record { num = b; den = d } }
+leap a b d = record { held = true; enter = a; leave = b; den = d }
 
 module _ (lo hi p q : ℕ) (h : lo ≤ hi) where
   pub rising : p < q → plain lo hi p q ≡ leap (lo - p) (hi - p) (q - p)
@@ -92,5 +92,5 @@ module _ (lo hi p q : ℕ) (h : lo ≤ hi) where
       let d : (q - p) + (p - q) ≡ p - q = omega arith in
       rw (le-ltb p q (omega arith), lt-ltb q p l, natural-pos p lo, natural-pos p hi, abs-pos q p, e, f, d)
 
-  pub standing : p ≡ q → plain lo hi p q ≡ record { held = leb lo p && ltb p hi; enter = record { num = 0; den = 1 }; leave = record { num = 1; den = 1 } }
+  pub standing : p ≡ q → plain lo hi p q ≡ record { held = leb lo p && ltb p hi; enter = 0; leave = 1; den = 1 }
   standing l = rw (le-ltb p q (omega arith), le-ltb q p (omega arith))

@@ -21,10 +21,10 @@ use Rattle.place.proofs.Deciding.{Sized}
 
 plain-sized : (lo hi p q : ℕ) (h : lo ≤ hi) → hi ≤ 2 ^ 20 → p ≤ 2 ^ 20 → q ≤ 2 ^ 20 → Sized (plain lo hi p q)
 plain-sized lo hi p q h hh hp hq = elim (decLt p q) [
-  | yes l ↦ rw (rising lo hi p q h l) record { some = omega arith; some′ = omega arith; enter = (omega arith, omega arith); leave = (omega arith, omega arith) }
+  | yes l ↦ rw (rising lo hi p q h l) record { some = omega arith; enter = (omega arith, omega arith); leave = (omega arith, omega arith) }
   | no l ↦ elim (decLt q p) [
-    | yes l′ ↦ rw (falling lo hi p q h l′) record { some = omega arith; some′ = omega arith; enter = (omega arith, omega arith); leave = (omega arith, omega arith) }
-    | no l′ ↦ rw (standing lo hi p q h (omega arith)) record { some = omega arith; some′ = omega arith; enter = (omega arith, omega arith); leave = (omega arith, omega arith) }
+    | yes l′ ↦ rw (falling lo hi p q h l′) record { some = omega arith; enter = (omega arith, omega arith); leave = (omega arith, omega arith) }
+    | no l′ ↦ rw (standing lo hi p q h (omega arith)) record { some = omega arith; enter = (omega arith, omega arith); leave = (omega arith, omega arith) }
   ]
 ]
 

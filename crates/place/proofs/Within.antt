@@ -17,11 +17,11 @@ spot p q t d = p * (d - t) + q * t
 
 -- t is in the stretch, in units of which d has den · n
 pub record In (x : Stretch) (n t d : ℕ) : Type 0 where
-  pub whole : x .enter .den * n ≡ d
+  pub whole : x .den * n ≡ d
   pub held : x .held ≡ true
-  pub some : 0 < x .leave .num
-  pub after : x .enter .num * n ≤ t
-  pub until : t ≤ x .leave .num * n
+  pub some : 0 < x .leave
+  pub after : x .enter * n ≤ t
+  pub until : t ≤ x .leave * n
   pub most : t ≤ d
 
 split : (p t d : ℕ) → t ≤ d → p * (d - t) + p * t ≡ p * d

@@ -20,11 +20,13 @@ Small f = (f .num ≤ 2 ^ 20) × (f .den ≤ 2 ^ 20)
 
 -- α at the lesser and at the greater plane of one axis, each over the axis' own difference
 abbrev pub stretchOf : Leg → Slab → Stretch
-stretchOf l s = record {
-  held = held l s;
-  enter = record { num = enters 1 l s; den = factor l };
-  leave = record { num = leaves 1 l s; den = factor l };
-}
+stretchOf l s = record { held = held l s; enter = enters 1 l s; leave = leaves 1 l s; den = factor l }
+
+abbrev pub entering : Stretch → Fraction
+entering x = record { num = x .enter; den = x .den }
+
+abbrev pub leaving : Stretch → Fraction
+leaving x = record { num = x .leave; den = x .den }
 
 abbrev pub below : Fraction → Fraction → Bool
 below a b = ltb (a .num * b .den) (b .num * a .den)
@@ -36,10 +38,10 @@ abbrev pub lesser : Fraction → Fraction → Fraction
 lesser a b = cond (below b a) b a
 
 abbrev pub αmin : Stretch → Stretch → Stretch → Fraction
-αmin x y z = greater (x .enter) (greater (y .enter) (z .enter))
+αmin x y z = greater (entering x) (greater (entering y) (entering z))
 
 abbrev pub αmax : Stretch → Stretch → Stretch → Fraction
-αmax x y z = lesser (record { num = 1; den = 1 }) (lesser (x .leave) (lesser (y .leave) (z .leave)))
+αmax x y z = lesser (record { num = 1; den = 1 }) (lesser (leaving x) (lesser (leaving y) (leaving z)))
 
 -- the three axes together: a miss where one does not hold the ray, or where αmax ≤ αmin
 unfoldable pub joinedOf : Stretch → Stretch → Stretch → Crossing

@@ -6,7 +6,7 @@ ghost use lib.IntN.{pos};
 ghost use Rattle.axis.specs.Leg.{planes};
 ghost use Rattle.axis.specs.Codes.{bench, inside, axisCode};
 ghost use Rattle.place.specs.Answers.{refusalOf};
-ghost use Rattle.place.specs.Deciding.{Small, stretchOf, joinedOf, crossingOf};
+ghost use Rattle.place.specs.Deciding.{Small, stretchOf, entering, leaving, αmin, αmax, joinedOf, crossingOf};
 use crate::fraction::Fraction;
 use crate::fraction::greater_of;
 use crate::fraction::less;
@@ -15,11 +15,12 @@ use axis::Axis;
 use ray::Grid;
 use ray::Ray;
 
-// What one axis leaves of the ray, and whether it holds a ray that stands still on it.
+// What one axis leaves of the ray, from enter / den to leave / den, and whether it holds a ray that stands still on it.
 pub struct Stretch {
     pub held: bool,
-    pub enter: Fraction,
-    pub leave: Fraction,
+    pub enter: u64,
+    pub leave: u64,
+    pub den: u64,
 }
 
 // What is found of a ray: a refusal's code, a miss, or αmin and αmax.
@@ -52,39 +53,28 @@ fn between(lo: u64, hi: u64, p: u64, q: u64) -> Stretch
     ensures { λ r. ⌜ r ≡ stretchOf (record { p = pos p; q = pos q }) (record { lo = pos lo; hi = pos hi }) ⌝ }
 {
     if p < q {
-        let enter = Fraction {
-            num: above(lo, p),
-            den: q - p,
-        };
-        let leave = Fraction {
-            num: above(hi, p),
-            den: q - p,
-        };
         return Stretch {
             held: true,
-            enter,
-            leave,
+            enter: above(lo, p),
+            leave: above(hi, p),
+            den: q - p,
         };
     }
     if q < p {
-        let enter = Fraction {
-            num: above(p, hi),
-            den: p - q,
-        };
-        let leave = Fraction {
-            num: above(p, lo),
-            den: p - q,
-        };
         return Stretch {
             held: true,
-            enter,
-            leave,
+            enter: above(p, hi),
+            leave: above(p, lo),
+            den: p - q,
         };
     }
     let held = lo <= p && p < hi;
-    let enter = Fraction { num: 0, den: 1 };
-    let leave = Fraction { num: 1, den: 1 };
-    Stretch { held, enter, leave }
+    Stretch {
+        held,
+        enter: 0,
+        leave: 1,
+        den: 1,
+    }
 }
 
 fn on_axis(a: Axis, p: i32, q: i32) -> Stretch
@@ -109,20 +99,54 @@ fn all(x: bool, y: bool, z: bool) -> bool
     if x { if y { z } else { false } } else { false }
 }
 
-fn joined(x: Stretch, y: Stretch, z: Stretch) -> Crossing
-    requires { ⌜ Small (x .enter) × (Small (y .enter) × Small (z .enter)) ⌝ }
-    requires { ⌜ Small (x .leave) × (Small (y .leave) × Small (z .leave)) ⌝ }
-    ensures { λ r. ⌜ r ≡ joinedOf x y z ⌝ }
+fn alpha_min(x: Stretch, y: Stretch, z: Stretch) -> Fraction
+    requires { ⌜ Small (entering x) × (Small (entering y) × Small (entering z)) ⌝ }
+    ensures { λ r. ⌜ r ≡ αmin x y z ⌝ }
+    ensures { λ r. ⌜ Small r ⌝ }
+{
+    let a = Fraction {
+        num: x.enter,
+        den: x.den,
+    };
+    let b = Fraction {
+        num: y.enter,
+        den: y.den,
+    };
+    let c = Fraction {
+        num: z.enter,
+        den: z.den,
+    };
+    greater_of(a, greater_of(b, c))
+}
+
+fn alpha_max(x: Stretch, y: Stretch, z: Stretch) -> Fraction
+    requires { ⌜ Small (leaving x) × (Small (leaving y) × Small (leaving z)) ⌝ }
+    ensures { λ r. ⌜ r ≡ αmax x y z ⌝ }
+    ensures { λ r. ⌜ Small r ⌝ }
 {
     let whole = Fraction { num: 1, den: 1 };
-    let xe = x.enter;
-    let ye = y.enter;
-    let ze = z.enter;
-    let xl = x.leave;
-    let yl = y.leave;
-    let zl = z.leave;
-    let enter = greater_of(xe, greater_of(ye, ze));
-    let leave = lesser_of(whole, lesser_of(xl, lesser_of(yl, zl)));
+    let a = Fraction {
+        num: x.leave,
+        den: x.den,
+    };
+    let b = Fraction {
+        num: y.leave,
+        den: y.den,
+    };
+    let c = Fraction {
+        num: z.leave,
+        den: z.den,
+    };
+    lesser_of(whole, lesser_of(a, lesser_of(b, c)))
+}
+
+fn joined(x: Stretch, y: Stretch, z: Stretch) -> Crossing
+    requires { ⌜ Small (entering x) × (Small (entering y) × Small (entering z)) ⌝ }
+    requires { ⌜ Small (leaving x) × (Small (leaving y) × Small (leaving z)) ⌝ }
+    ensures { λ r. ⌜ r ≡ joinedOf x y z ⌝ }
+{
+    let enter = alpha_min(x, y, z);
+    let leave = alpha_max(x, y, z);
     if all(x.held, y.held, z.held) {
         if less(enter, leave) {
             return Crossing::Through(enter, leave);

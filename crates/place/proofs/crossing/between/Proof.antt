@@ -10,14 +10,11 @@ use Rattle.place.proofs.crossing.between.Tie as tie
 above-requires : tie.Need-above-requires
 above-requires c κs = search needs
 
-sub-t14 : tie.Need-sub-t14
-sub-t14 c = search needs
-
 above-requires-2 : tie.Need-above-requires-2
 above-requires-2 c κs = search needs
 
-sub-t14-2 : tie.Need-sub-t14-2
-sub-t14-2 c = search needs
+sub-t9 : tie.Need-sub-t9
+sub-t9 c = search needs
 
 returns : tie.Need-returns
 returns c = let a = c .before .before .before .args in rw (c .before .above .ensures, c .above2 .ensures) (sym (rising (a .lo) (a .hi) (a .p) (a .q) (omega arith) (omega arith)))
@@ -42,9 +39,8 @@ between-spec =
     tie.close
     (tie.spec
     above-requires
-    sub-t14
     above-requires-2
-    sub-t14-2
+    sub-t9
     returns
     above-requires-3
     above-requires-4
