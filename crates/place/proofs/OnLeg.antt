@@ -14,7 +14,6 @@ use Rattle.axis.specs.Leg.{Leg, planes}
 use Rattle.axis.specs.Codes.{Limits, inside}
 use Rattle.axis.proofs.Shift.{shift, low-add}
 use Rattle.axis.proofs.Bounds.{inside-low, AxisOk}
-use Rattle.ray.specs.Length.{leg, holds}
 use Rattle.place.specs.declared.fraction.Fraction.{Fraction}
 use Rattle.place.specs.Deciding.{stretchOf}
 use Rattle.place.specs.Answers.{coordinate}
@@ -22,7 +21,7 @@ use Rattle.place.proofs.Accepted.{slab}
 use Rattle.place.proofs.Deciding.{Is, up-to-one}
 use Rattle.place.proofs.Sizes.{lo, hi, lo-is, hi-is, raised-axis}
 use Rattle.place.proofs.Difference.{told, diff-times, diff-order, point-is}
-use Rattle.place.proofs.Signed.{nearest-same, exact, at-least, at-most, nearest-plain}
+use Rattle.place.proofs.Signed.{nearest-same, at-least, at-most, nearest-plain}
 use Rattle.place.proofs.Shown.{ZeroPlain}
 use Rattle.place.proofs.Within.{spot, In, within, same-spot}
 

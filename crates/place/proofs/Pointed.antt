@@ -9,7 +9,7 @@ use lib.IntN.{ℤ, pos, _*ℤ_}
 use lib.Dec.{T}
 use lib.Ieee.{Float, binary64, le, ofInt}
 use lib.Ieee.Positive.{first-pos}
-use Rattle.axis.specs.Leg.{Slab, planes, held, enters, leaves}
+use Rattle.axis.specs.Leg.{Slab, held, enters, leaves}
 use Rattle.axis.specs.Codes.{Limits}
 use Rattle.axis.proofs.Flag.{and-left, and-right}
 use Rattle.ray.specs.declared.Grid.{Grid}
@@ -25,11 +25,10 @@ use Rattle.place.specs.Deciding.{stretchOf, crossingOf}
 use Rattle.place.specs.Answers.{coordinate, pointAt, nowhere, pointsOf}
 use Rattle.place.proofs.Accepted.{side, array-is, code-ok}
 use Rattle.place.proofs.Deciding.{Is, enters-is, leaves-is, share}
-use Rattle.place.proofs.Sizes.{lo, hi, d-some}
-use Rattle.place.proofs.Difference.{told}
+use Rattle.place.proofs.Sizes.{d-some}
 use Rattle.place.proofs.Signed.{exact}
 use Rattle.place.proofs.Shown.{ZeroPlain}
-use Rattle.place.proofs.Within.{In, within}
+use Rattle.place.proofs.Within.{In}
 use Rattle.place.proofs.OnLeg.{exactly, coordinate-is, coordinate-plain, planes-hold}
 use Rattle.place.proofs.Found.{Hit, hit, answer-is}
 
