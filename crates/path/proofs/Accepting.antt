@@ -5,7 +5,7 @@ use mathlib.Core.Bool.{Bool, true, false, _||_, not, cond}
 use native.Mathlib.Omega.{arith}
 use lib.Dec.{eqb, ltb}
 use lib.ListN.{length}
-use borrow.Author.Tests.{not-false}
+use borrow.Author.Tests.{not-false, eq-eqb, ne-eqb}
 use Rattle.axis.specs.declared.Axis.{Axis}
 use Rattle.axis.specs.Leg.{moving}
 use Rattle.axis.specs.Codes.{Limits, bench, inside, first, planesOut}
@@ -70,16 +70,40 @@ ends-then true t d = refl
 ends-then false true d = refl
 ends-then false false d = refl
 
-module _ (g : Grid) (r : Ray) (densities voxels parts filled : ℕ) where
-  abbrev room : ℕ
-  room = cond (ltb voxels (filled + length (listOf (volume g) r))) 8 0
+-- 8, or 0
+abbrev room : Grid → Ray → ℕ → ℕ → ℕ
+room g r voxels filled = cond (ltb voxels (filled + length (listOf (volume g) r))) 8 0
 
-  pub in-stages : codeOf g r densities voxels parts filled
-      ≡ then (first (gridRows bench g)) (cond (not (eqb densities (count (volume g)))) 4 (then (first (endRows bench r)) (cond (not (eqb voxels parts)) 7 room)))
+module _ (g : Grid) (r : Ray) (densities voxels parts filled : ℕ) where
+  in-stages : codeOf g r densities voxels parts filled
+      ≡ then (first (gridRows bench g)) (cond (not (eqb densities (count (volume g)))) 4 (then (first (endRows bench r)) (cond (not (eqb voxels parts)) 7 (room g r voxels filled))))
   in-stages =
       let noN : Side → Bool = λ x. eqb (axisOf g x .n) 0 || ltb 512 (axisOf g x .n) in
       let noD : Side → Bool = λ x. eqb (axisOf g x .d) 0 || ltb 4096 (axisOf g x .d) in
       let out : Side → Bool = λ x. planesOut bench (axisOf g x) in
       grid-then (noN X || (noN Y || noN Z)) (noD X || (noD Y || noD Z)) (out X || (out Y || out Z)) _
       ∙ ap (λ (d : ℕ). then (first (gridRows bench g)) (cond (not (eqb densities (count (volume g)))) 4 d))
-      (ends-then (someLeg r (λ l. not (inside bench (l .p)) || not (inside bench (l .q)))) (not (someLeg r moving)) (cond (not (eqb voxels parts)) 7 room))
+      (ends-then (someLeg r (λ l. not (inside bench (l .p)) || not (inside bench (l .q)))) (not (someLeg r moving)) (cond (not (eqb voxels parts)) 7 (room g r voxels filled)))
+
+-- where each stage stops: with its own code, or 8 and 0 left over
+module _ (g : Grid) (r : Ray) (densities voxels parts : ℕ) where
+  abbrev Says : ℕ → Type 0
+  Says c = (filled : ℕ) → codeOf g r densities voxels parts filled ≡ cond (eqb c 0) (room g r voxels filled) c
+
+  pub at-grid : (c : ℕ) → c ≡ first (gridRows bench g) → (c ≡ 0 → ⊥) → Says c
+  at-grid c e h filled = in-stages g r densities voxels parts filled ∙ rw (← e, ne-eqb c 0 h) refl
+
+  module _ (grid : first (gridRows bench g) ≡ 0) where
+    pub at-densities : (densities ≡ count (volume g) → ⊥) → Says 4
+    at-densities h filled = in-stages g r densities voxels parts filled ∙ rw (grid, ne-eqb densities (count (volume g)) h) refl
+
+    module _ (fit : densities ≡ count (volume g)) where
+      pub at-ends : (c : ℕ) → c ≡ first (endRows bench r) → (c ≡ 0 → ⊥) → Says c
+      at-ends c e h filled = in-stages g r densities voxels parts filled ∙ rw (grid, eq-eqb densities (count (volume g)) fit, ← e, ne-eqb c 0 h) refl
+
+      module _ (ends : first (endRows bench r) ≡ 0) where
+        pub at-lists : (voxels ≡ parts → ⊥) → Says 7
+        at-lists h filled = in-stages g r densities voxels parts filled ∙ rw (grid, eq-eqb densities (count (volume g)) fit, ends, ne-eqb voxels parts h) refl
+
+        pub at-room : voxels ≡ parts → Says 0
+        at-room h filled = in-stages g r densities voxels parts filled ∙ rw (grid, eq-eqb densities (count (volume g)) fit, ends, eq-eqb voxels parts h) refl

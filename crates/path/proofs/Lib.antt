@@ -1,3 +1,4 @@
 -- Laws of the trace.
 pub mod Accepting
 pub mod Raised
+pub mod Weighing

@@ -60,21 +60,26 @@ module _ (m : Limits) (g : Grid) (r : Ray) (grid : first (gridRows m g) ≡ 0) (
     where
       told : (z : ℤ) → inside m z ≡ true → pos (natural (z +ℤ pos (m .coord))) ≡ z +ℤ pos (m .coord)
       told z h = sym (shift-is (m .coord) z (inside-low m z h))
+
       plane : (b : ℤ) (n : ℕ) → inside m b ≡ true → pos (natural (b +ℤ pos (m .coord)) + n) ≡ b +ℤ pos n +ℤ pos (m .coord)
       plane b n h =
           ap pos (sym (shift-add (m .coord) b n (inside-low m b h))) ∙ sym (shift-is (m .coord) (b +ℤ pos n) (low-add (m .coord) b n (inside-low m b h)))
+
       sizes : (o : Side) → volumeOf (sceneOf m g r) o .n ≡ volume g o .n
       sizes X = refl
       sizes Y = refl
       sizes Z = refl
+
       planes : (o : Side) (i : ℕ) → volumeOf (sceneOf m g r) o .at i ≡ volume g o .at i +ℤ pos (m .coord)
       planes X i = plane (g .x .b) (i * g .x .d) (axes-ok m g grid X .near)
       planes Y i = plane (g .y .b) (i * g .y .d) (axes-ok m g grid Y .near)
       planes Z i = plane (g .z .b) (i * g .z .d) (axes-ok m g grid Z .near)
+
       starts : (o : Side) → leg (rayOf (sceneOf m g r)) o .p ≡ leg r o .p +ℤ pos (m .coord)
       starts X = told (r .p .x) (ends-inside m r ends X .0)
       starts Y = told (r .p .y) (ends-inside m r ends Y .0)
       starts Z = told (r .p .z) (ends-inside m r ends Z .0)
+
       ends′ : (o : Side) → leg (rayOf (sceneOf m g r)) o .q ≡ leg r o .q +ℤ pos (m .coord)
       ends′ X = told (r .q .x) (ends-inside m r ends X .1)
       ends′ Y = told (r .q .y) (ends-inside m r ends Y .1)

@@ -1,5 +1,5 @@
 -- What path's inner functions say to each other. A reader of the promises needs none of it. Definitions only. Assumes nothing.
-use Prim.Native.Nat.{ℕ, _+_, _-_, _*_, _^_, _≤_, _<_}
+use Prim.Native.Nat.{ℕ, _+_, _*_, _^_, _≤_, _<_}
 use mathlib.Core.Path.{_≡_}
 use mathlib.Core.Bool.{true}
 use mathlib.Core.List.{List, [], _∷_, sum}
@@ -41,9 +41,6 @@ sceneOf m g r = record {
   y = lineOf m (g .y) (r .p .y) (r .q .y);
   z = lineOf m (g .z) (r .p .z) (r .q .z);
 }
-
-abbrev pub gapN : ℕ → ℕ → ℕ
-gapN p q = (q - p) + (p - q)
 
 -- the sum of part·density over entries
 abbrev pub weighed : List ℕ → List ℕ → List ℕ → ℕ

@@ -1,14 +1,15 @@
 // A grid and a ray told from the lower limit up, for the walk.
 ghost use mathlib.Core.Path.{_≡_};
-ghost use Prim.Native.Nat.{_+_, _*_, _≤_};
+ghost use Prim.Native.Nat.{_+_, _-_, _*_, _^_, _≤_};
 ghost use Rattle.axis.specs.Codes.{bench};
 ghost use Rattle.ray.specs.Length.{squaredOf};
 ghost use Rattle.walk.specs.Scene.{Able, rayOf};
-ghost use Rattle.path.specs.Inside.{lineOf, sceneOf, gapN};
+ghost use Rattle.path.specs.Inside.{lineOf, sceneOf};
 use axis::Axis;
 use axis::raised;
 use ray::Grid;
 use ray::Ray;
+use walk::extremes::apart;
 use walk::line::Line;
 use walk::line::Scene;
 
@@ -36,10 +37,11 @@ pub fn scene_of(g: Grid, r: Ray) -> Scene
 }
 
 fn square(a: Line) -> u64
-    requires { ⌜ (a .p ≤ 1048576) × (a .q ≤ 1048576) ⌝ }
-    ensures { λ r. ⌜ r ≡ gapN (a .p) (a .q) * gapN (a .p) (a .q) ⌝ }
+    requires { ⌜ (a .p ≤ 2 ^ 20) × (a .q ≤ 2 ^ 20) ⌝ }
+    ensures { λ r. ⌜ r ≡ ((a .p - a .q) + (a .q - a .p)) * ((a .p - a .q) + (a .q - a .p)) ⌝ }
+    ensures { λ r. ⌜ r ≤ 2 ^ 40 ⌝ }
 {
-    let gap = if a.p < a.q { a.q - a.p } else { a.p - a.q };
+    let gap = apart(a.p, a.q);
     gap * gap
 }
 

@@ -57,6 +57,9 @@ abs-diff′ : (a b : ℕ) → a < b → natAbs (pos a -ℤ pos b) ≡ b - a
 abs-diff′ a zero h = absurd (omega arith)
 abs-diff′ a (suc b) h = rw (sub-lt a (suc b) h) (omega arith)
 
+pub abs-gap : (p q : ℕ) → natAbs (pos q -ℤ pos p) ≡ (p - q) + (q - p)
+abs-gap p q = elim (decLt q p) [ yes h ↦ abs-diff′ q p h ∙ omega arith | no h ↦ abs-diff q p (omega arith) ∙ omega arith ]
+
 pub moves : (p q : ℕ) → (p ≡ q → ⊥) → moving (legN p q) ≡ true
 moves p q h = elim (decLt p q) [ yes k ↦ rw (lt-ltb p q k) refl | no k ↦ rw (le-ltb p q (omega arith), lt-ltb q p (omega arith)) refl ]
 

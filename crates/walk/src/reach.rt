@@ -4,6 +4,7 @@ ghost use Prim.Native.Nat.{_+_, _-_, _^_, _≤_, _<_};
 ghost use Rattle.axis.specs.Leg.{leaves};
 ghost use Rattle.walk.specs.Scene.{legN, slabN, plane, Sized, Window};
 ghost use Rattle.walk.specs.Plan.{Reached, crossedOn};
+use crate::extremes::apart;
 use crate::line::Line;
 
 // Where the ray comes in and goes out on the axis, and whether a still axis holds it.
@@ -11,12 +12,6 @@ pub struct Reach {
     pub from: u64,
     pub to: u64,
     pub held: bool,
-}
-
-fn apart(i: u64, j: u64) -> u64
-    ensures { λ r. ⌜ r ≡ (i - j) + (j - i) ⌝ }
-{
-    if i < j { j - i } else { i - j }
 }
 
 impl Line {

@@ -1,20 +1,25 @@
+use Prim.Native.Nat.{_^_, _≤_}
+use mathlib.Core.Path.{refl}
+use native.Mathlib.Omega.{arith}
+use Rattle.walk.proofs.Sizes.{two-sizes}
 use borrow.Author.Needs.{needs}
 use Rattle.path.proofs.scene.square.Statement.{statement}
 use Rattle.path.proofs.scene.square.Tie as tie
 use Rattle.path.proofs.scene.square.Reads as reads
 use Rattle.path.proofs.scene.square.Lts as lts
+use Rattle.walk.proofs.extremes.apart.Reads as apart-reads
 
--- src/scene.rt:42:30
-sub-gap : tie.Need-sub-gap
-sub-gap c = search needs
+few : (c : tie.After-apart) → c .apart .result ≤ 2 ^ 20
+few c = omega (arith, c .apart .ensures, c .before .pre .0, c .before .pre .1)
 
--- src/scene.rt:43:5
+apart-requires : tie.Need-apart-requires
+apart-requires c κs = search needs
+
 mul-result : tie.Need-mul-result
-mul-result c = ?
+mul-result c = record { fits = omega (arith, two-sizes (few c) (few c)) }
 
--- src/scene.rt:38:1
 returns : tie.Need-returns
-returns c = ?
+returns c = (rw (c .apart .ensures) refl, two-sizes (few c) (few c))
 
 pub square-spec : {M : Type 1} → statement M
-square-spec = tie.close (tie.spec sub-gap mul-result returns)
+square-spec = tie.close (tie.spec apart-requires mul-result returns)
