@@ -14,3 +14,4 @@ pub mod Sizes
 pub mod Frames
 pub mod Crossing
 pub mod Plans
+pub mod SetOut
