@@ -9,3 +9,5 @@ pub mod Listing
 pub mod MovedAxis
 pub mod Moved
 pub mod Weighted
+pub mod Different
+pub mod FewAlphas
