@@ -1,16 +1,17 @@
 -- Document 01: "On a hit, the number of entries is one more than the number of different α among those planes", the planes that
 -- are crossed. That number, counted over the ticks from 0 to D, which are α times D. Assumes nothing.
-use Prim.Native.Nat.{ℕ, zero, suc, _+_, _*_, _<_}
+use Prim.Native.Nat.{ℕ, zero, suc, _+_, _*_, _≤_, _<_}
 use mathlib.Core.Path.{_≡_, refl, ap, _∙_}
 use mathlib.Core.Bool.{Bool, true, false, _&&_, _||_, cond}
 use native.Mathlib.Omega.{arith}
 use native.Mathlib.Decide.{decLt}
 use lib.IntN.{pos}
-use lib.Dec.{eqb}
-use borrow.Author.Tests.{eq-eqb, ne-eqb}
-use Rattle.axis.specs.Leg.{run}
+use lib.Dec.{ltb, eqb}
+use borrow.Author.Tests.{lt-ltb, ltb-true, eq-eqb, ne-eqb}
+use Rattle.axis.specs.Leg.{moving, run}
+use Rattle.axis.proofs.Flag.{and-left, and-right}
 use Rattle.ray.specs.declared.Ray.{Ray}
-use Rattle.ray.specs.Length.{Side, X, Y, Z, leg, dOf, rest, Volume, volume, total, crosses}
+use Rattle.ray.specs.Length.{Side, X, Y, Z, leg, dOf, rest, Volume, volume, array, start, stop, total, crosses}
 use Rattle.ray.proofs.Bench.{grid, ray}
 
 -- α of a plane, times D
@@ -63,6 +64,21 @@ module _ (test : ℕ → Bool) where
   some-no zero h = refl
   some-no (suc n) h = rw (some-no n (λ i k. h i (omega arith)), h n (omega arith)) refl
 
+-- "with α strictly between αmin and αmax"
+module _ (v : Volume) (r : Ray) (s : Side) (i : ℕ) where
+  pub crosses-means : crosses v r s i ≡ true → (moving (leg r s) ≡ true) × (start r (array v) < alphaOf v r s i) × (alphaOf v r s i < stop r (array v))
+  unfolding crosses
+  crosses-means h =
+      let between = and-right (moving (leg r s)) _ h in (
+        and-left (moving (leg r s)) _ h,
+        ltb-true _ _ (and-left (ltb (start r (array v)) (alphaOf v r s i)) _ between),
+        ltb-true _ _ (and-right (ltb (start r (array v)) (alphaOf v r s i)) _ between),
+      )
+
+  pub means-crosses : moving (leg r s) ≡ true → start r (array v) < alphaOf v r s i → alphaOf v r s i < stop r (array v) → crosses v r s i ≡ true
+  unfolding crosses
+  means-crosses m a b = rw (m, lt-ltb (start r (array v)) (alphaOf v r s i) a, lt-ltb (alphaOf v r s i) (stop r (array v)) b) refl
+
 module _ (v : Volume) (r : Ray) (x : ℕ) where
   pub crossed-yes : (s : Side) (i : ℕ) → i < v s .n + 1 → crosses v r s i ≡ true → alphaOf v r s i ≡ x → crossedAt v r x ≡ true
   unfolding crossedAt
@@ -78,3 +94,9 @@ module _ (v : Volume) (r : Ray) (x : ℕ) where
       neither : (c : Bool) (a : ℕ) {c₀ : Bool} → c₀ ≡ c → (c₀ ≡ true → a ≡ x → ⊥) → (c && eqb a x) ≡ false
       neither false a e h = refl
       neither true a e h = ne-eqb a x (h e)
+
+  pub crossed-since : x ≤ start r (array v) → crossedAt v r x ≡ false
+  crossed-since h = crossed-no (λ s i k c e. omega (arith, crosses-means v r s i c .1))
+
+  pub crossed-until : stop r (array v) ≤ x → crossedAt v r x ≡ false
+  crossed-until h = crossed-no (λ s i k c e. omega (arith, crosses-means v r s i c .2))

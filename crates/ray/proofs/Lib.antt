@@ -11,3 +11,4 @@ pub mod Moved
 pub mod Weighted
 pub mod Different
 pub mod FewAlphas
+pub mod After
