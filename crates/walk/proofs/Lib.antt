@@ -15,3 +15,5 @@ pub mod Frames
 pub mod Crossing
 pub mod Plans
 pub mod SetOut
+pub mod Missed
+pub mod FewPlanes

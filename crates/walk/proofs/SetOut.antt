@@ -13,7 +13,7 @@ use Rattle.walk.specs.declared.line.Scene.{Scene}
 use Rattle.walk.specs.declared.steps.Walk.{Walk}
 use Rattle.walk.specs.declared.steps.Strides.{Strides}
 use Rattle.walk.specs.declared.plan.Frame.{Frame}
-use Rattle.walk.specs.Scene.{legN, slabN, plane, line, volumeOf, rayOf, Able, Window, Within}
+use Rattle.walk.specs.Scene.{legN, slabN, plane, line, volumeOf, rayOf, Able, Within}
 use Rattle.walk.specs.Model.{Forward}
 use Rattle.walk.specs.Plan.{restOf, Framed, unit, Strided, Begun}
 use Rattle.walk.proofs.Units.{leaveBy, leaves-is}
@@ -34,7 +34,7 @@ pub record SetOut (s : Scene) : Type 0 where
   pub tick : walk .t ≡ start (rayOf s) (array (volumeOf s))
 
 -- the definitions themselves make a frame
-abbrev frame : Scene → Frame
+abbrev pub frame : Scene → Frame
 frame s = record {
   cx = rest (rayOf s) X;
   cy = rest (rayOf s) Y;
@@ -50,7 +50,7 @@ rest-at s X = refl
 rest-at s Y = refl
 rest-at s Z = refl
 
-framed : (s : Scene) → Framed s (frame s)
+pub framed : (s : Scene) → Framed s (frame s)
 framed s = record { rests = rest-at s; d-is = refl; from-is = refl; to-is = refl; hit-is = refl }
 
 -- one voxel on, and one back
@@ -91,23 +91,33 @@ module _ (s : Scene) (able : Able s) where
       (three-sizes (leave-size (line s o) (able .sized o) {i = i} {j = i + 1} (omega arith) (omega arith) _ (λ c. sym (is c))) (rest-few s able o))
 
   module _ (hit : misses (volumeOf s) (rayOf s) ≡ false) where
-    hits : frame s .hit ≡ true
+    pub hits : frame s .hit ≡ true
     hits = rw hit refl
 
-    window : (o : Side) → Window (line s o) (restOf (frame s) o) (frame s .from)
-    window o = windows s able (frame s) (framed s) hits o (frame s .from) (omega arith) (proper s able (frame s) (framed s) hits)
+    pub from-to : frame s .from < frame s .to
+    from-to = proper s able (frame s) (framed s) hits
+
+    -- on each axis the voxel of a tick at which the ray is in the array
+    abbrev pub index : ℕ → Side → ℕ
+    index t o = depth (way s o) (line s o) (t / restOf (frame s) o) / line s o .d
+
+    pub within : (t : ℕ) → frame s .from ≤ t → t < frame s .to → (o : Side) → Within (line s o) (restOf (frame s) o) t (index t o)
+    within t a b o =
+        index-within (line s o) (restOf (frame s) o) t (way s o) (going s o) (windows s able (frame s) (framed s) hits o t a b) (able .sized o .wide)
 
     abbrev at : Side → ℕ
-    at o = depth (way s o) (line s o) (frame s .from / restOf (frame s) o) / line s o .d
+    at = index (frame s .from)
 
-    within : (o : Side) → Within (line s o) (restOf (frame s) o) (frame s .from) (at o)
-    within o = index-within (line s o) (restOf (frame s) o) (frame s .from) (way s o) (going s o) (window o) (able .sized o .wide)
+    first-within : (o : Side) → Within (line s o) (restOf (frame s) o) (frame s .from) (at o)
+    first-within = within (frame s .from) (omega arith) from-to
 
     abbrev leave : Side → ℕ
     leave o = leaveFrom o (at o)
 
     first : Begun s (frame s) (record { x = leave X; y = leave Y; z = leave Z; v = (at Z * s .y .n + at Y) * s .x .n + at X; t = frame s .from })
-    first = begun s (frame s) (at X) (at Y) (at Z) (leave X) (leave Y) (leave Z) (within X) (within Y) (within Z) refl refl refl (leave-few X (at X) (within X .inside)) (leave-few Y (at Y) (within Y .inside)) (leave-few Z (at Z) (within Z .inside))
+    first =
+        begun s (frame s) (at X) (at Y) (at Z) (leave X) (leave Y) (leave Z) (first-within X) (first-within Y) (first-within Z) refl refl refl
+        (leave-few X (at X) (first-within X .inside)) (leave-few Y (at Y) (first-within Y .inside)) (leave-few Z (at Z) (first-within Z .inside))
 
     pub set-out : SetOut s
     set-out = record {
