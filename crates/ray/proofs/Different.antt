@@ -1,5 +1,5 @@
 -- Document 01: "On a hit, the number of entries is one more than the number of different α among those planes", the planes that
--- are crossed. That number, counted over the ticks from 0 to D, which are α times D. Assumes nothing.
+-- are crossed. That number, counted over the ticks below D: a tick is an α times D. Assumes nothing.
 use Prim.Native.Nat.{ℕ, zero, suc, _+_, _*_, _≤_, _<_}
 use mathlib.Core.Path.{_≡_, refl, ap, _∙_}
 use mathlib.Core.Bool.{Bool, true, false, _&&_, _||_, cond}

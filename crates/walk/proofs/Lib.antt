@@ -17,3 +17,5 @@ pub mod Plans
 pub mod SetOut
 pub mod Missed
 pub mod FewPlanes
+pub mod Alphas
+pub mod Counts

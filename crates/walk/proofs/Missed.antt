@@ -1,14 +1,11 @@
--- A ray that misses the array goes through no voxel of it. Assumes nothing.
+-- A ray that goes through a voxel of the array hits the array. Assumes nothing.
 use Prim.Native.Nat.{ℕ, _≤_, _<_}
 use mathlib.Core.Path.{_≡_, refl}
 use mathlib.Core.Bool.{true, false}
-use mathlib.Core.List.{List, [], _∷_, List·Memᴰ, List·Memᴰ·head}
 use native.Mathlib.Omega.{arith}
 use borrow.Author.Tests.{lt-leb}
 use Rattle.axis.specs.Leg.{held}
-use Rattle.axis.proofs.Flag.{off-or-on}
-use Rattle.ray.specs.Length.{Side, X, Y, Z, leg, count, array, place, holds, start, stop, partOf, misses, listOf}
-use Rattle.ray.proofs.Listing.{list-sound}
+use Rattle.ray.specs.Length.{Side, X, Y, Z, leg, count, array, place, holds, start, stop, partOf, misses}
 use Rattle.walk.specs.declared.line.Scene.{Scene}
 use Rattle.walk.specs.Scene.{line, volumeOf, rayOf, Able}
 use Rattle.walk.proofs.Units.{Way, up, down, still, HeldBy}
@@ -21,10 +18,6 @@ held-wider : (w : Way) (p : ℕ) {lo hi lo₀ hi₁ : ℕ} → lo₀ ≤ lo → 
 held-wider up p a b h = tt
 held-wider down p a b h = tt
 held-wider still p a b h = (omega (arith, h .0), omega (arith, h .1))
-
-no-members : (xs : List ℕ) → ((m : ℕ) → List·Memᴰ m xs → ⊥) → xs ≡ []
-no-members [] none = refl
-no-members (x ∷ xs) none = absurd (none x (List·Memᴰ·head refl))
 
 module _ (s : Scene) (able : Able s) where
   -- where a voxel holds a still coordinate the array does
@@ -41,7 +34,3 @@ module _ (s : Scene) (able : Able s) where
       let k = met s m p .proper in
       let proper : start (rayOf s) (array (volumeOf s)) < stop (rayOf s) (array (volumeOf s)) = omega (arith, start-late s able m h, stop-soon s able m h) in
       rw (lt-leb (stop (rayOf s) (array (volumeOf s))) (start (rayOf s) (array (volumeOf s))) proper, array-held m h p) refl
-
-  pub missed-list : misses (volumeOf s) (rayOf s) ≡ true → listOf (volumeOf s) (rayOf s) ≡ []
-  missed-list missed = no-members (listOf (volumeOf s) (rayOf s))
-      (λ m h. let k = list-sound (volumeOf s) (rayOf s) m h in off-or-on (misses (volumeOf s) (rayOf s)) missed (part-hits m (k .0) (k .1)))
