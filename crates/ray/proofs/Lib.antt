@@ -28,3 +28,6 @@ pub mod Seam
 pub mod Ends
 pub mod CutList
 pub mod CutBench
+pub mod Different
+pub mod FewAlphas
+pub mod After

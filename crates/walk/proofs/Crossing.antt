@@ -72,13 +72,13 @@ module _ (a : Line) (c : ℕ) where
   abbrev down-key : ℕ → ℕ
   down-key m = (a .p - plane a m) * c
 
-  up-rise : (m n : ℕ) → m ≤ n → up-key m ≤ up-key n
+  pub up-rise : (m n : ℕ) → m ≤ n → up-key m ≤ up-key n
   up-rise m n h = mul-le-mul-right c (le-sub (plane a m) (plane a n) (a .p) (plane-mono a h))
     where
       le-sub : (x y p : ℕ) → x ≤ y → x - p ≤ y - p
       le-sub x y p h = omega arith
 
-  down-fall : (m n : ℕ) → m ≤ n → down-key n ≤ down-key m
+  pub down-fall : (m n : ℕ) → m ≤ n → down-key n ≤ down-key m
   down-fall m n h = mul-le-mul-right c (sub-le (plane a m) (plane a n) (a .p) (plane-mono a h))
     where
       sub-le : (x y p : ℕ) → x ≤ y → p - y ≤ p - x

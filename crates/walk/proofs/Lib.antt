@@ -14,3 +14,8 @@ pub mod Sizes
 pub mod Frames
 pub mod Crossing
 pub mod Plans
+pub mod SetOut
+pub mod Missed
+pub mod FewPlanes
+pub mod Alphas
+pub mod Counts

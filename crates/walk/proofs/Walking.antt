@@ -114,7 +114,7 @@ module _ (s : Scene) (able : Able s) where
     pub soon-later : w .t < soonest w
     soon-later = lt-least (leaveOf w) (w .t) (λ o. rw (on .leaves o) (on .until o))
 
-    to-d : to ≤ dOf (ray s)
+    pub to-d : to ≤ dOf (ray s)
     to-d = rw (stop-array s) (cut-le (dOf (ray s)) (least (λ o. leave s o 0 (line s o .n))))
 
     here-part : partOf (vol s) (ray s) here ≡ min (dOf (ray s)) (soonest w) - w .t
@@ -163,7 +163,7 @@ module _ (s : Scene) (able : Able s) where
           lt-of-le-of-lt (rw (on .leaves o) at (le-of-eq e))
           (lt-of-lt-of-le (under-least (dOf (ray s)) (soonest w) _ (rw (stop-array s) at more)) (least-le (λ x. leave s x 0 (line s x .n)) o))
 
-      next-at : (o : Side) → leaveOf w o ≡ soonest w → Next (way s o) (line s o) (rest (ray s) o) (at o)
+      pub next-at : (o : Side) → leaveOf w o ≡ soonest w → Next (way s o) (line s o) (rest (ray s) o) (at o)
       next-at o e = next (line s o) (rest (ray s) o) (way s o) (at o) (on .inside o) (omega (arith, on .until o)) (leave-less o e)
 
       -- what is kept on one axis
