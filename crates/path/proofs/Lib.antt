@@ -2,3 +2,5 @@
 pub mod Accepting
 pub mod Raised
 pub mod Weighing
+pub mod Hits
+pub mod Answering

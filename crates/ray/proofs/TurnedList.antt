@@ -12,7 +12,7 @@ use Rattle.ray.proofs.Planes.{Rise, grid-rise}
 use Rattle.ray.proofs.Apart.{follows, starts-apart}
 use Rattle.ray.proofs.Turned.{turned, d-turned, voxel-turned, order-turned, span-turned, crossed-turned, sum-turned, squared-turned}
 
-map-same : (f g : ℕ → ℕ) → ((m : ℕ) → f m ≡ g m) → (ms : List ℕ) → map f ms ≡ map g ms
+pub map-same : (f g : ℕ → ℕ) → ((m : ℕ) → f m ≡ g m) → (ms : List ℕ) → map f ms ≡ map g ms
 map-same f g e [] = refl
 map-same f g e (m ∷ ms) = rw (e m, map-same f g e ms)
 

@@ -1,3 +1,16 @@
+use Prim.Native.Nat.{ℕ, _+_}
+use mathlib.Core.Path.{_≡_, refl, sym, ap, _∙_}
+use mathlib.Core.Bool.{cond}
+use mathlib.Core.List.{List}
+use borrow.Author.Tests.{ne-eqb, not-false}
+use lib.Dec.{eqb, ltb}
+use lib.ListN.{length}
+use Rattle.ray.specs.declared.Grid.{Grid}
+use Rattle.ray.specs.declared.Ray.{Ray}
+use Rattle.ray.specs.Length.{volume, listOf}
+use Rattle.path.specs.declared.Trace.{Trace}
+use Rattle.path.specs.Answer.{answerOf, voxelsAfter, partsAfter}
+use Rattle.path.proofs.Answering.{Answers, refuses, able-so, d-so, count-so, hit-answers, miss-answers}
 use borrow.Author.Needs.{needs}
 use Rattle.path.proofs.calls.trace.Statement.{statement}
 use Rattle.path.proofs.calls.trace.Tie as tie
@@ -10,49 +23,74 @@ use Rattle.path.proofs.scene.scene_of.Reads as scene-of-reads
 use Rattle.path.proofs.scene.squared_of.Reads as squared-of-reads
 use Rattle.walk.proofs.plan.frame_of.Reads as frame-of-reads
 
--- src/calls.rt:90:9
+told : {g : Grid} {r : Ray} {densities vs₀ ps₀ vs ps : List ℕ} {filled : ℕ} {a : Trace} → Answers g r densities vs₀ ps₀ filled a vs ps
+    → (a ≡ answerOf g r densities (length vs₀) (length ps₀) filled)
+    × ((vs ≡ voxelsAfter g r (length densities) vs₀ ps₀ filled) × (ps ≡ partsAfter g r (length densities) vs₀ ps₀ filled))
+told x = (x .answer, (x .voxels-now, x .parts-now))
+
 code-but-room-requires : tie.Need-code-but-room-requires
 code-but-room-requires c κs = search needs
 
--- src/calls.rt:92:9
 refusal-requires : tie.Need-refusal-requires
 refusal-requires c κs = search needs
 
--- src/calls.rt:92:9
 returns : tie.Need-returns
-returns c = ?
+returns c =
+    let a = c .before .before .before .before .before .before .args in
+    let k = c .before .before .code-but-room .result in
+    told (refuses (a .g) (a .r) (a .densities .now) (a .voxels .now) (a .parts .now) 0 k _ (c .before .before .code-but-room .ensures .0 0 ∙ rw (ne-eqb k 0 (c .before .if1 .taken)) refl) (c .before .if1 .taken) (c .refusal .ensures))
 
--- src/calls.rt:94:9
 scene-of-requires : tie.Need-scene-of-requires
 scene-of-requires c κs = search needs
 
--- src/calls.rt:95:9
 frame-of-requires : tie.Need-frame-of-requires
-frame-of-requires c κs = ?
+frame-of-requires c κs =
+    let a = c .before .before .before .before .before .before .args in
+    let ok = c .before .before .code-but-room .ensures .1 (c .before .if1 .left) in
+    able-so (a .g) (a .r) _ _ _ ok _ (c .scene-of .ensures)
 
--- src/calls.rt:97:9
 hitting-requires : tie.Need-hitting-requires
-hitting-requires c κs = ?
+hitting-requires c κs =
+    let a = c .before .before .before .before .before .before .before .before .before .before .args in
+    let ok = c .before .before .before .before .before .before .code-but-room .ensures .1 (c .before .before .before .before .before .if1 .left) in
+    let e = c .before .before .before .before .scene-of .ensures in
+    record {
+      able = able-so (a .g) (a .r) _ _ _ ok _ e;
+      framed = c .before .before .before .frame-of .ensures;
+      hit = c .before .before .if2 .taken;
+      d-size = d-so (a .g) (a .r) _ _ _ ok _ e;
+      densities-are = count-so (a .g) (a .r) _ _ _ ok _ e;
+      lists-are = ok .lists-are;
+    }
 
--- src/calls.rt:97:9
 same-length : tie.Need-same-length
 same-length c = search needs
 
--- src/calls.rt:97:9
 same-length-2 : tie.Need-same-length-2
 same-length-2 c = search needs
 
--- src/calls.rt:97:9
 returns-2 : tie.Need-returns-2
-returns-2 c = ?
+returns-2 c =
+    let a = c .before .before .before .before .before .before .before .before .before .before .before .before .before .before .before .args in
+    let ok = c .before .before .before .before .before .before .before .before .before .before .before .code-but-room .ensures .1 (c .before .before .before .before .before .before .before .before .before .before .if1 .left) in
+    let e = c .before .before .before .before .before .before .before .before .before .scene-of .ensures in
+    let h = c .before .before .before .before .hitting .ensures in
+    told (hit-answers (a .g) (a .r) (a .densities .now) (a .voxels .now) (a .parts .now) ok (c .before .before .before .before .before .before .before .before .before .before .before .code-but-room .ensures .0 0 ∙ ap (λ (n : ℕ). cond (eqb n 0) (cond (ltb (length (a .voxels .now)) (0 + length (listOf (volume (a .g)) (a .r)))) 8 0) n) (c .before .before .before .before .before .before .before .before .before .before .if1 .left)) _ e _ _ _ (h .0) (h .1 .0) (h .1 .1))
 
--- src/calls.rt:99:9
 squared-of-requires : tie.Need-squared-of-requires
-squared-of-requires c κs = ?
+squared-of-requires c κs =
+    let a = c .before .before .before .before .before .before .before .before .args in
+    let ok = c .before .before .before .before .code-but-room .ensures .1 (c .before .before .before .if1 .left) in
+    able-so (a .g) (a .r) _ _ _ ok _ (c .before .before .scene-of .ensures)
 
--- src/calls.rt:85:1
 returns-3 : tie.Need-returns-3
-returns-3 c = ?
+returns-3 c =
+    let a = c .before .before .before .before .before .before .before .before .before .args in
+    let ok = c .before .before .before .before .before .code-but-room .ensures .1 (c .before .before .before .before .if1 .left) in
+    let e = c .before .before .before .scene-of .ensures in
+    let f = c .before .before .frame-of .ensures in
+    let m = not-false _ (sym (f .hit-is) ∙ c .before .if2 .left) in
+    told (miss-answers (a .g) (a .r) (a .densities .now) (a .voxels .now) (a .parts .now) ok (c .before .before .before .before .before .code-but-room .ensures .0 0 ∙ ap (λ (n : ℕ). cond (eqb n 0) (cond (ltb (length (a .voxels .now)) (0 + length (listOf (volume (a .g)) (a .r)))) 8 0) n) (c .before .before .before .before .if1 .left)) _ e _ _ _ m (f .d-is) (c .squared-of .ensures) refl)
 
 pub trace-spec : {M : Type 1} → statement M
 trace-spec =
