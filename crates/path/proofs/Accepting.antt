@@ -75,7 +75,7 @@ abbrev room : Grid → Ray → ℕ → ℕ → ℕ
 room g r voxels filled = cond (ltb voxels (filled + length (listOf (volume g) r))) 8 0
 
 module _ (g : Grid) (r : Ray) (densities voxels parts filled : ℕ) where
-  in-stages : codeOf g r densities voxels parts filled
+  pub in-stages : codeOf g r densities voxels parts filled
       ≡ then (first (gridRows bench g)) (cond (not (eqb densities (count (volume g)))) 4 (then (first (endRows bench r)) (cond (not (eqb voxels parts)) 7 (room g r voxels filled))))
   in-stages =
       let noN : Side → Bool = λ x. eqb (axisOf g x .n) 0 || ltb 512 (axisOf g x .n) in

@@ -30,6 +30,12 @@ pub record Answers (g : Grid) (r : Ray) (densities vs₀ ps₀ : List ℕ) (fill
   pub voxels-now : vs ≡ voxelsAfter g r (length densities) vs₀ ps₀ filled
   pub parts-now : ps ≡ partsAfter g r (length densities) vs₀ ps₀ filled
 
+-- as the promises of the calls have it
+pub told : {g : Grid} {r : Ray} {densities vs₀ ps₀ vs ps : List ℕ} {filled : ℕ} {a : Trace} → Answers g r densities vs₀ ps₀ filled a vs ps
+    → (a ≡ answerOf g r densities (length vs₀) (length ps₀) filled)
+    × ((vs ≡ voxelsAfter g r (length densities) vs₀ ps₀ filled) × (ps ≡ partsAfter g r (length densities) vs₀ ps₀ filled))
+told x = (x .answer, (x .voxels-now, x .parts-now))
+
 module _ (g : Grid) (r : Ray) (densities vs ps : List ℕ) (filled : ℕ) where
   pub refuses : (c : ℕ) (a : Trace) → codeOf g r (length densities) (length vs) (length ps) filled ≡ c → (c ≡ 0 → ⊥) → a ≡ refused c
       → Answers g r densities vs ps filled a vs ps
@@ -48,13 +54,13 @@ module _ (g : Grid) (r : Ray) (densities vs ps : List ℕ) (filled : ℕ) where
 
 -- ---- the scene's answer is the grid's and the ray's
 module _ (g : Grid) (r : Ray) (nd nv np : ℕ) (ok : Accepted g r nd nv np) (s : Scene) (e : s ≡ sceneOf bench g r) where
-  abbrev told : Scene
-  told = sceneOf bench g r
+  abbrev raised : Scene
+  raised = sceneOf bench g r
 
   abbrev k : ℤ
   k = pos (bench .coord)
 
-  on : Moved k (volume g) (volumeOf told) r (rayOf told)
+  on : Moved k (volume g) (volumeOf raised) r (rayOf raised)
   on = moved bench g r (ok .grid) (ok .ends)
 
   pub able-so : Able s
@@ -67,23 +73,23 @@ module _ (g : Grid) (r : Ray) (nd nv np : ℕ) (ok : Accepted g r nd nv np) (s :
   count-so = ok .densities-are ∙ ap (λ (x : Scene). count (volumeOf x)) (sym e)
 
   list-so : listOf (volumeOf s) (rayOf s) ≡ listOf (volume g) r
-  list-so = ap (λ (x : Scene). listOf (volumeOf x) (rayOf x)) e ∙ list-moved k (volume g) (volumeOf told) r (rayOf told) on
+  list-so = ap (λ (x : Scene). listOf (volumeOf x) (rayOf x)) e ∙ list-moved k (volume g) (volumeOf raised) r (rayOf raised) on
 
   parts-so : map (partOf (volumeOf s) (rayOf s)) (listOf (volumeOf s) (rayOf s)) ≡ map (partOf (volume g) r) (listOf (volume g) r)
   parts-so =
       ap (λ (x : Scene). map (partOf (volumeOf x) (rayOf x)) (listOf (volumeOf x) (rayOf x))) e
-      ∙ ap (map (partOf (volumeOf told) (rayOf told))) (list-moved k (volume g) (volumeOf told) r (rayOf told) on)
-      ∙ map-same _ _ (part-moved k (volume g) (volumeOf told) r (rayOf told) on) (listOf (volume g) r)
+      ∙ ap (map (partOf (volumeOf raised) (rayOf raised))) (list-moved k (volume g) (volumeOf raised) r (rayOf raised) on)
+      ∙ map-same _ _ (part-moved k (volume g) (volumeOf raised) r (rayOf raised) on) (listOf (volume g) r)
 
-  moved-answer : (densities : List ℕ) → accepted (volumeOf told) (rayOf told) densities ≡ accepted (volume g) r densities
+  moved-answer : (densities : List ℕ) → accepted (volumeOf raised) (rayOf raised) densities ≡ accepted (volume g) r densities
   moved-answer densities =
       rw (
-        list-moved k (volume g) (volumeOf told) r (rayOf told) on,
-        crossed-moved k (volume g) (volumeOf told) r (rayOf told) on,
-        span-moved k (volume g) (volumeOf told) r (rayOf told) on,
-        d-moved k (volume g) (volumeOf told) r (rayOf told) on,
-        squared-moved k (volume g) (volumeOf told) r (rayOf told) on,
-        sum-moved k (volume g) (volumeOf told) r (rayOf told) on densities,
+        list-moved k (volume g) (volumeOf raised) r (rayOf raised) on,
+        crossed-moved k (volume g) (volumeOf raised) r (rayOf raised) on,
+        span-moved k (volume g) (volumeOf raised) r (rayOf raised) on,
+        d-moved k (volume g) (volumeOf raised) r (rayOf raised) on,
+        squared-moved k (volume g) (volumeOf raised) r (rayOf raised) on,
+        sum-moved k (volume g) (volumeOf raised) r (rayOf raised) on densities,
       ) refl
 
   accepted-so : (densities : List ℕ) → accepted (volumeOf s) (rayOf s) densities ≡ accepted (volume g) r densities

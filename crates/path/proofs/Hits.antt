@@ -67,6 +67,7 @@ module _ (s : Scene) (f : Frame) (nd nv np : ℕ) (h : Hitting s f nd nv np) whe
     where
       cut : (a b d : ℕ) → a ≤ d → a - b ≤ d
       cut a b d k = omega arith
+
       to-d : (d l : ℕ) → min d l ≤ d
       to-d d l = omega arith
 

@@ -4,3 +4,4 @@ pub mod Raised
 pub mod Weighing
 pub mod Hits
 pub mod Answering
+pub mod Appending

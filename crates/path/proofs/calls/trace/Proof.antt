@@ -1,16 +1,11 @@
 use Prim.Native.Nat.{ℕ, _+_}
 use mathlib.Core.Path.{_≡_, refl, sym, ap, _∙_}
 use mathlib.Core.Bool.{cond}
-use mathlib.Core.List.{List}
 use borrow.Author.Tests.{ne-eqb, not-false}
 use lib.Dec.{eqb, ltb}
 use lib.ListN.{length}
-use Rattle.ray.specs.declared.Grid.{Grid}
-use Rattle.ray.specs.declared.Ray.{Ray}
 use Rattle.ray.specs.Length.{volume, listOf}
-use Rattle.path.specs.declared.Trace.{Trace}
-use Rattle.path.specs.Answer.{answerOf, voxelsAfter, partsAfter}
-use Rattle.path.proofs.Answering.{Answers, refuses, able-so, d-so, count-so, hit-answers, miss-answers}
+use Rattle.path.proofs.Answering.{told, refuses, able-so, d-so, count-so, hit-answers, miss-answers}
 use borrow.Author.Needs.{needs}
 use Rattle.path.proofs.calls.trace.Statement.{statement}
 use Rattle.path.proofs.calls.trace.Tie as tie
@@ -22,11 +17,6 @@ use Rattle.path.proofs.calls.refusal.Reads as refusal-reads
 use Rattle.path.proofs.scene.scene_of.Reads as scene-of-reads
 use Rattle.path.proofs.scene.squared_of.Reads as squared-of-reads
 use Rattle.walk.proofs.plan.frame_of.Reads as frame-of-reads
-
-told : {g : Grid} {r : Ray} {densities vs₀ ps₀ vs ps : List ℕ} {filled : ℕ} {a : Trace} → Answers g r densities vs₀ ps₀ filled a vs ps
-    → (a ≡ answerOf g r densities (length vs₀) (length ps₀) filled)
-    × ((vs ≡ voxelsAfter g r (length densities) vs₀ ps₀ filled) × (ps ≡ partsAfter g r (length densities) vs₀ ps₀ filled))
-told x = (x .answer, (x .voxels-now, x .parts-now))
 
 code-but-room-requires : tie.Need-code-but-room-requires
 code-but-room-requires c κs = search needs
