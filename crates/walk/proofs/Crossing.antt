@@ -15,7 +15,8 @@ use Rattle.ray.proofs.Total.{total-same, total-zero}
 use Rattle.walk.specs.declared.line.Line.{Line}
 use Rattle.walk.specs.Scene.{legN, slabN, plane, Within}
 use Rattle.walk.specs.Plan.{crossAt, crossedOn}
-use Rattle.walk.proofs.Units.{Way, up, down, still, Goes, goes, enterBy, leaveBy, enters-is, leaves-is, held-by, moves, stays, run-up, run-down}
+use Rattle.ray.proofs.Way.{Way, up, down, still, Goes, way as goes}
+use Rattle.walk.proofs.Units.{enterBy, leaveBy, enters-is, leaves-is, held-by, moves, stays, run-up, run-down}
 use Rattle.walk.proofs.Stretch.{plane-next, plane-mono, one-voxel}
 
 -- ---- the numbers above lo and up to hi, counted

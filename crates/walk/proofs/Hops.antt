@@ -7,9 +7,9 @@ use native.Mathlib.Nat.{mod-eq-of-lt, add-mod-right, add-mul, suc-mul, one-mul, 
 use lib.Dec.{eqb}
 use Rattle.ray.specs.Length.{Side, X, Y, Z, Volume}
 use Rattle.walk.specs.Plan.{unit}
-use Rattle.walk.proofs.Units.{Way, up, down, still}
+use Rattle.ray.proofs.Way.{Way, up, down, still}
 use Rattle.walk.proofs.Stretch.{onward}
-use Rattle.walk.proofs.Numbers.{number}
+use Rattle.ray.proofs.Places.{number}
 
 -- what the code adds for one voxel on
 abbrev pub Jump : Way → ℕ → ℕ → Type 0

@@ -6,7 +6,8 @@ use native.Mathlib.Nat.{div-lt-iff-lt-mul, zero-mul}
 use Rattle.axis.specs.Leg.{enters, leaves}
 use Rattle.walk.specs.declared.line.Line.{Line}
 use Rattle.walk.specs.Scene.{legN, slabN, plane, Window, Within}
-use Rattle.walk.proofs.Units.{Way, up, down, still, Goes, enterBy, leaveBy, enters-is, leaves-is, held-by, by-held}
+use Rattle.ray.proofs.Way.{Way, up, down, still, Goes}
+use Rattle.walk.proofs.Units.{enterBy, leaveBy, enters-is, leaves-is, held-by, by-held}
 use Rattle.walk.proofs.Stretch.{plane-mono, units-le, ticks-le, depth, In, to-in, from-in, narrow, within}
 
 pub plane-zero : (a : Line) → plane a 0 ≡ a .b

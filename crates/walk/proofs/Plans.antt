@@ -19,7 +19,8 @@ use Rattle.walk.specs.declared.plan.Plan.{Plan}
 use Rattle.walk.specs.Scene.{legN, slabN, plane, line, volumeOf, rayOf, Able, Window, Within}
 use Rattle.walk.specs.Model.{leaveOf, stepOf, jumpOf, soonest, Forward}
 use Rattle.walk.specs.Plan.{crossAt, crossedOn, restOf, Framed, unit, Strided, Begun, Planned}
-use Rattle.walk.proofs.Units.{Way, up, down, still, Goes, enters-is, leaves-is, held-by}
+use Rattle.ray.proofs.Way.{Way, up, down, still, Goes}
+use Rattle.walk.proofs.Units.{enters-is, leaves-is, held-by}
 use Rattle.walk.proofs.Three.{most, least, most-le, le-most, least-le, most-mono}
 use Rattle.walk.proofs.Stretch.{plane-mono, enter-whole}
 use Rattle.walk.proofs.Sizes.{two-sizes, three-sizes, factor-size}

@@ -6,7 +6,8 @@ use native.Mathlib.Nat.{mul-le-mul, mul-one}
 use Rattle.axis.specs.Leg.{factor, enters, leaves}
 use Rattle.walk.specs.declared.line.Line.{Line}
 use Rattle.walk.specs.Scene.{legN, slabN, plane, Sized}
-use Rattle.walk.proofs.Units.{Way, up, down, still, Goes, goes, factorBy, enterBy, leaveBy, factor-is, enters-is, leaves-is}
+use Rattle.ray.proofs.Way.{Way, up, down, still, Goes, way as goes, factorBy}
+use Rattle.walk.proofs.Units.{enterBy, leaveBy, factor-is, enters-is, leaves-is}
 use Rattle.walk.proofs.Stretch.{plane-mono}
 
 pub two-sizes : {f g : ℕ} → f ≤ 2 ^ 20 → g ≤ 2 ^ 20 → f * g ≤ 2 ^ 40

@@ -1,5 +1,5 @@
 use native.Mathlib.Omega.{arith}
-use Rattle.walk.proofs.Units.{up, down, still}
+use Rattle.ray.proofs.Way.{up, down, still}
 use Rattle.walk.proofs.Index.{plane-zero, in-array, index-within}
 use borrow.Author.Needs.{needs}
 use Rattle.walk.proofs.line.Line.index.Statement.{statement}
