@@ -1,20 +1,18 @@
 -- What the walk's entries are, once it is known to be walking: ray's list, with its parts, which add up to what is left of the
 -- span, and not more of them than planes ahead. One induction over the turns carries each. Assumes nothing.
-use Prim.Native.Nat.{ℕ, zero, suc, _+_, _-_, _*_, _%_, _^_, _≤_, _<_}
-use mathlib.Core.Path.{_≡_, refl, sym, ap, _∙_, subst}
-use mathlib.Core.Bool.{Bool, true, false, cond}
+use Prim.Native.Nat.{ℕ, zero, suc, _+_, _-_, _≤_, _<_}
+use mathlib.Core.Path.{_≡_, refl, sym, subst}
 use mathlib.Core.List.{List, [], _∷_, _++_, map, sum, append-assoc}
 use native.Mathlib.Omega.{arith}
 use native.Mathlib.Decide.{decLe}
-use lib.ListN.{length}
-use Rattle.ray.specs.Length.{Side, X, Y, Z, count, array, voxel, start, stop, partOf, listOf}
+use Rattle.ray.specs.Length.{Side, count, array, start, stop, partOf, listOf}
 use Rattle.ray.proofs.Apart.{starts-apart}
 use Rattle.ray.proofs.Total.{sumList}
 use Rattle.ray.proofs.Listing.{Listed, SoFar, starts, one-more, none-yet, all-found, list-is}
 use Rattle.walk.specs.declared.line.Scene.{Scene}
 use Rattle.walk.specs.declared.steps.Walk.{Walk}
 use Rattle.walk.specs.declared.steps.Strides.{Strides}
-use Rattle.walk.specs.Scene.{line, Able}
+use Rattle.walk.specs.Scene.{Able}
 use Rattle.walk.specs.Model.{soonest, stepped, Entry, entry, voxels, parts, entries, Forward}
 use Rattle.walk.proofs.Turns.{forward-on, step-tick, entries-last, entries-more}
 use Rattle.ray.proofs.Places.{number}

@@ -1,10 +1,9 @@
 -- What is known of the walk at each turn: on every axis it is in a voxel of the array, since a tick not later than now and until a
 -- tick later than now, and on one axis since now. Assumes nothing.
-use Prim.Native.Nat.{ℕ, zero, suc, _+_, _-_, _*_, _%_, _^_, _≤_, _<_, min, max}
+use Prim.Native.Nat.{ℕ, _+_, _-_, _*_, _%_, _^_, _≤_, _<_, min}
 use mathlib.Core.Path.{_≡_, refl, sym, ap, _∙_}
-use mathlib.Core.Bool.{Bool, true, false, cond, true≢false}
+use mathlib.Core.Bool.{Bool, true, false, cond}
 use native.Mathlib.Omega.{arith}
-use native.Mathlib.Decide.{ℕ-discrete, decLe, decLt}
 use native.Mathlib.Nat.{le-antisymm, le-of-eq, le-trans, lt-of-lt-of-le, lt-of-le-of-lt, mul-pos, mod-eq-of-lt}
 use lib.Dec.{eqb}
 use borrow.Author.Tests.{eq-eqb, eqb-true, eqb-false}
@@ -18,9 +17,9 @@ use Rattle.walk.specs.Plan.{unit}
 use Rattle.ray.proofs.Way.{Way, up, down, still}
 use Rattle.walk.proofs.Units.{HeldBy}
 use Rattle.walk.proofs.Three.{most, least, most-le, le-most, least-le, least-one, lt-least, least-mono, most-mono, most-same, least-same}
-use Rattle.walk.proofs.Stretch.{onward, Next, next, enter-whole, leave-whole, one-voxel, HeldAt}
+use Rattle.walk.proofs.Stretch.{onward, Next, next, enter-whole, leave-whole, one-voxel}
 use Rattle.ray.proofs.Places.{number, place-number, number-below, place-below, place-same}
-use Rattle.walk.proofs.Scenes.{vol, ray, way, enter, leave, Held, start-voxel, stop-voxel, start-array, stop-array, Met, met, part-met, rest-some}
+use Rattle.walk.proofs.Scenes.{vol, ray, way, enter, leave, Held, start-voxel, stop-voxel, start-array, stop-array, met, part-met, rest-some}
 use Rattle.walk.proofs.Hops.{Jump, Left, number-small, all-over}
 
 -- the strides are those of the scene

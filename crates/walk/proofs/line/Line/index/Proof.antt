@@ -4,8 +4,6 @@ use Rattle.walk.proofs.Index.{plane-zero, in-array, index-within}
 use borrow.Author.Needs.{needs}
 use Rattle.walk.proofs.line.Line.index.Statement.{statement}
 use Rattle.walk.proofs.line.Line.index.Tie as tie
-use Rattle.walk.proofs.line.Line.index.Reads as reads
-use Rattle.walk.proofs.line.Line.index.Lts as lts
 
 div-g : tie.Need-div-g
 div-g c = search needs
