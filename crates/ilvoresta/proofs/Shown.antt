@@ -47,7 +47,7 @@ module _ (g : Grid) (r : Ray) (ans : List Float) where
       record { code-is = sym (in-turn ∙ rw (← s .0, some) refl); answer-now = rw some refl }
 
   -- a place that is not refused: the length of the list is all that is left
-  pub placed : (a : Place) (c : ℕ) (ans′ : List Float) → a ≡ placeOf bench g r → refusalOf bench g r ≡ 0 → c ≡ first (lengthRow 2 (length ans)) → ans′ ≡ after c (twoOf a) ans
+  placed : (a : Place) (c : ℕ) (ans′ : List Float) → a ≡ placeOf bench g r → refusalOf bench g r ≡ 0 → c ≡ first (lengthRow 2 (length ans)) → ans′ ≡ after c (twoOf a) ans
       → Placed g r ans c ans′
   placed a c ans′ e none k l = record { code-is = k ∙ sym (in-turn ∙ rw none refl); answer-now = l ∙ ap (λ (x : Place). after c (twoOf x) ans) e }
 
