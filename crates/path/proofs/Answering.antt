@@ -70,7 +70,7 @@ module _ (g : Grid) (r : Ray) (nd nv np : ℕ) (ok : Accepted g r nd nv np) (s :
   pub count-so : nd ≡ count (volumeOf s)
   count-so = ok .densities-are ∙ ap (λ (x : Scene). count (volumeOf x)) (sym e)
 
-  list-so : listOf (volumeOf s) (rayOf s) ≡ listOf (volume g) r
+  pub list-so : listOf (volumeOf s) (rayOf s) ≡ listOf (volume g) r
   list-so = ap (λ (x : Scene). listOf (volumeOf x) (rayOf x)) e ∙ list-moved k (volume g) (volumeOf raised) r (rayOf raised) on
 
   parts-so : map (partOf (volumeOf s) (rayOf s)) (listOf (volumeOf s) (rayOf s)) ≡ map (partOf (volume g) r) (listOf (volume g) r)

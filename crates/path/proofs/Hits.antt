@@ -44,6 +44,10 @@ unfolding sum
 weighed-list part densities [] = refl
 weighed-list part densities (v ∷ vs) = ap (λ (x : ℕ). part v * getD densities v 0 + x) (weighed-list part densities vs)
 
+-- the walk has as many entries as the list
+pub entries-number : (s : Scene) (to : ℕ) (p : Plan) → Planned s to p → length (entries (p .strides) to (p .walk)) ≡ length (listOf (volumeOf s) (rayOf s))
+entries-number s to p planned = sym (length-map (entries (p .strides) to (p .walk)) (λ (e : Entry). e .voxel)) ∙ ap length (planned .voxels-are)
+
 module _ (s : Scene) (f : Frame) (nd nv np : ℕ) (h : Hitting s f nd nv np) where
   abbrev v : Volume
   v = volumeOf s
@@ -75,7 +79,7 @@ module _ (s : Scene) (f : Frame) (nd nv np : ℕ) (h : Hitting s f nd nv np) whe
     es = entries (p .strides) (f .to) (p .walk)
 
     pub number : length es ≡ length (listOf v r)
-    number = sym (length-map es (λ (e : Entry). e .voxel)) ∙ ap length (planned .voxels-are)
+    number = entries-number s (f .to) p planned
 
     pub few : length es ≤ p .crossed + 1
     few = omega (arith, number, entries-crossed s (h .able), planned .crossed-is)

@@ -4,4 +4,6 @@ pub mod Raised
 pub mod Weighing
 pub mod Hits
 pub mod Answering
+pub mod Coding
 pub mod Appending
+pub mod Once

@@ -1,6 +1,7 @@
 // The trace: which voxels a ray passes, how much of it lies in each, and the weighted sum.
 pub mod accept;
 pub mod calls;
+pub mod code;
 pub mod scene;
 pub mod weigh;
 

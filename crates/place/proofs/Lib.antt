@@ -14,3 +14,4 @@ pub mod OnLeg
 pub mod Placed
 pub mod Pointed
 pub mod Bench
+pub mod Once

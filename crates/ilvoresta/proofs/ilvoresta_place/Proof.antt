@@ -1,0 +1,30 @@
+-- `ilvoresta_place` meets its contract. Assumes nothing.
+use mathlib.Core.Path.{_∙_}
+use borrow.Author.Needs.{needs}
+use Rattle.ilvoresta.proofs.Again.{grid-again, ray-again}
+use Rattle.ilvoresta.proofs.ilvoresta_place.Statement.{statement}
+use Rattle.ilvoresta.proofs.ilvoresta_place.Tie as tie
+
+grid-of-requires : tie.Need-grid-of-requires
+grid-of-requires c κs = search needs
+
+ray-of-requires : tie.Need-ray-of-requires
+ray-of-requires c κs = search needs
+
+place-into-requires : tie.Need-place-into-requires
+place-into-requires c κs = search needs
+
+same-length : tie.Need-same-length
+same-length c = search needs
+
+returns : tie.Need-returns
+returns c =
+    let a = c .before .before .before .before .before .before .before .args in
+    let f = c .before .before .before .before .before .before .before .fits in
+    let g = c .before .before .before .before .before .grid-of .ensures ∙ grid-again (a .nx) (a .ny) (a .nz) (a .dx) (a .dy) (a .dz) (a .bx) (a .by) (a .bz) (f .bx) (f .by) (f .bz) in
+    let r = c .before .before .before .before .ray-of .ensures ∙ ray-again (a .px) (a .py) (a .pz) (a .qx) (a .qy) (a .qz) (f .px) (f .py) (f .pz) (f .qx) (f .qy) (f .qz) in
+    rw (← g, ← r) (c .before .before .place-into .ensures)
+
+pub ilvoresta-place-spec : {M : Type 1} → statement M
+ilvoresta-place-spec =
+    tie.close (tie.spec grid-of-requires ray-of-requires place-into-requires same-length returns)

@@ -1,0 +1,73 @@
+-- Document 01, "Places for drawing", on the C entry points. Definitions only. Assumes nothing.
+use Prim.Native.Nat.{ℕ}
+use mathlib.Core.Path.{_≡_}
+use mathlib.Core.Bool.{false, not, cond}
+use mathlib.Core.List.{List, [], _∷_, _++_, map}
+use lib.IntN.{ℤ, pos}
+use lib.Dec.{eqb}
+use lib.Ieee.{Float, fin}
+use lib.ListN.{length}
+use Rattle.axis.specs.Codes.{bench, Row, row, first}
+use Rattle.ray.specs.declared.Grid.{Grid}
+use Rattle.ray.specs.declared.Ray.{Ray}
+use Rattle.ray.specs.Length.{volume, dOf, squaredOf, spanOf, partOf, listOf, sumOf, crossedOf}
+use Rattle.ray.specs.Codes.{gridRows, endRows, traceRows}
+use Rattle.path.specs.Answer.{written}
+use Rattle.place.specs.declared.Place.{Place}
+use Rattle.place.specs.declared.Place.the-variants.{Refused, Miss, Hit}
+use Rattle.place.specs.Answers.{placeOf}
+
+-- a grid and a ray given "on numbers"
+abbrev pub gridOf : (nx ny nz dx dy dz : ℕ) (bx by bz : ℤ) → Grid
+gridOf nx ny nz dx dy dz bx by bz = record {
+  x = record { n = nx; d = dx; b = bx };
+  y = record { n = ny; d = dy; b = by };
+  z = record { n = nz; d = dz; b = bz };
+}
+
+abbrev pub rayOf : (px py pz qx qy qz : ℤ) → Ray
+rayOf px py pz qx qy qz = record { p = record { x = px; y = py; z = pz }; q = record { x = qx; y = qy; z = qz } }
+
+-- 17: "the answer list has another length than stated"
+abbrev pub lengthRow : (stated answer : ℕ) → List Row
+lengthRow stated answer = row 17 (not (eqb answer stated)) ∷ []
+
+-- "Code 17 is checked last"
+abbrev pub traceCode : Grid → Ray → (densities voxels parts answer : ℕ) → ℕ
+traceCode g r densities voxels parts answer = first (traceRows bench g r densities voxels parts 0 ++ lengthRow 6 answer)
+
+abbrev pub placeCode : Grid → Ray → (answer : ℕ) → ℕ
+placeCode g r answer = first (gridRows bench g ++ endRows bench r ++ lengthRow 2 answer)
+
+-- a lent list afterwards: "on code 0" the new one, else as it was
+abbrev pub after : {A : Type 0} → (code : ℕ) → (new old : List A) → List A
+after code new old = cond (eqb code 0) new old
+
+-- "for the trace six numbers, from entries to weighted sum in the order above"
+abbrev pub sixOf : Grid → Ray → List ℕ → List ℕ
+sixOf g r densities =
+    length (listOf (volume g) r)
+    ∷ crossedOf (volume g) r
+    ∷ spanOf (volume g) r
+    ∷ dOf r
+    ∷ squaredOf r
+    ∷ sumOf (volume g) r densities
+    ∷ []
+
+-- "for the place two floats, enter and leave, both zero on a miss"; a refused place has none
+abbrev pub twoOf : Place → List Float
+twoOf (Refused c) = []
+twoOf Miss = fin false 0 (pos 0) ∷ fin false 0 (pos 0) ∷ []
+twoOf (Hit enter leave) = enter ∷ leave ∷ []
+
+-- What an entry point returns and leaves in the lists lent, from what they held: "Each returns the code and on code 0 fills a
+-- lent answer list", "no refusal changes the answer list".
+pub record Traced (g : Grid) (r : Ray) (densities voxels parts answer : List ℕ) (code : ℕ) (voxels′ parts′ answer′ : List ℕ) : Type 0 where
+  pub code-is : code ≡ traceCode g r (length densities) (length voxels) (length parts) (length answer)
+  pub voxels-now : voxels′ ≡ after code (written 0 (listOf (volume g) r) voxels) voxels
+  pub parts-now : parts′ ≡ after code (written 0 (map (partOf (volume g) r) (listOf (volume g) r)) parts) parts
+  pub answer-now : answer′ ≡ after code (sixOf g r densities) answer
+
+pub record Placed (g : Grid) (r : Ray) (answer : List Float) (code : ℕ) (answer′ : List Float) : Type 0 where
+  pub code-is : code ≡ placeCode g r (length answer)
+  pub answer-now : answer′ ≡ after code (twoOf (placeOf bench g r)) answer

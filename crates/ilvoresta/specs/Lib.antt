@@ -1,0 +1,2 @@
+-- What the C entry points answer, and what they leave in the lists.
+pub mod Entry
