@@ -1,0 +1,2 @@
+-- Laws of the text job.
+pub mod Example
