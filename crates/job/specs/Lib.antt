@@ -4,3 +4,5 @@ pub mod Numbers
 pub mod Rays
 pub mod Line
 pub mod Job
+pub mod Sound
+pub mod Read
