@@ -1,2 +1,5 @@
 -- Laws of the text job.
 pub mod Example
+pub mod Refusals
+pub mod Taking
+pub mod Fields

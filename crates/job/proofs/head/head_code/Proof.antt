@@ -1,3 +1,7 @@
+use mathlib.Core.Path.{sym, ap, _∙_}
+use Rattle.text.specs.Split.{split}
+use Rattle.job.specs.Line.{placeOf}
+use Rattle.job.proofs.Refusals.{unknown, misplaced, miscounted, well-headed}
 use borrow.Author.Needs.{needs}
 use Rattle.job.proofs.head.head_code.Statement.{statement}
 use Rattle.job.proofs.head.head_code.Tie as tie
@@ -8,37 +12,37 @@ use Rattle.job.proofs.head.place_of.Reads as place-of-reads
 use Rattle.text.proofs.fields.count.Reads as count-reads
 use Rattle.text.proofs.word.first_word.Reads as first-word-reads
 
--- src/head.rt:38:24
 first-word-requires : tie.Need-first-word-requires
 first-word-requires c κs = search needs
 
--- src/head.rt:38:9
 place-of-requires : tie.Need-place-of-requires
 place-of-requires c κs = search needs
 
--- src/head.rt:40:9
 returns : tie.Need-returns
-returns c = ?
+returns c =
+    let a = c .before .before .before .before .args in
+    unknown (a .place) (a .nx) (c .before .place-of .result) (split 9 (a .line .now)) (c .before .place-of .ensures ∙ ap placeOf (c .before .before .first-word .ensures)) (c .if1 .taken)
 
--- src/head.rt:43:9
 returns-2 : tie.Need-returns-2
-returns-2 c = ?
+returns-2 c =
+    let a = c .before .before .before .before .before .args in
+    misplaced (a .place) (a .nx) (c .before .before .place-of .result) (split 9 (a .line .now)) (c .before .before .place-of .ensures ∙ ap placeOf (c .before .before .before .first-word .ensures)) (c .before .if1 .left) (c .if2 .taken)
 
--- src/head.rt:45:8
 count-requires : tie.Need-count-requires
 count-requires c κs = search needs
 
--- src/head.rt:45:23
 fields-at-requires : tie.Need-fields-at-requires
 fields-at-requires c κs = search needs
 
--- src/head.rt:46:9
 returns-3 : tie.Need-returns-3
-returns-3 c = ?
+returns-3 c =
+    let a = c .before .before .before .before .before .before .before .before .args in
+    miscounted (a .place) (a .nx) (c .before .before .before .before .before .place-of .result) (split 9 (a .line .now)) (c .before .before .before .before .before .place-of .ensures ∙ ap placeOf (c .before .before .before .before .before .before .first-word .ensures)) (c .before .before .before .before .if1 .left) (c .before .before .before .if2 .left) (λ h. c .if3 .taken (c .before .before .count .ensures ∙ h ∙ sym (c .before .fields-at .ensures)))
 
--- src/head.rt:35:1
 returns-4 : tie.Need-returns-4
-returns-4 c = ?
+returns-4 c =
+    let a = c .before .before .before .before .before .before .before .before .args in
+    well-headed (a .place) (a .nx) (c .before .before .before .before .before .place-of .result) (split 9 (a .line .now)) (c .before .before .before .before .before .place-of .ensures ∙ ap placeOf (c .before .before .before .before .before .before .first-word .ensures)) (c .before .before .before .before .if1 .left) (c .before .before .before .if2 .left) (sym (c .before .before .count .ensures) ∙ c .if3 .left ∙ c .before .fields-at .ensures)
 
 pub head-code-spec : {M : Type 1} → statement M
 head-code-spec =
