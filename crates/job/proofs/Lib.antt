@@ -3,3 +3,4 @@ pub mod Example
 pub mod Refusals
 pub mod Taking
 pub mod Fields
+pub mod Cutting

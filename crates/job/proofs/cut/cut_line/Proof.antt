@@ -1,69 +1,75 @@
+use Prim.Native.Nat.{_-_}
+use native.Mathlib.Omega.{arith}
+use lib.ListN.{length, take}
+use Rattle.job.proofs.Cutting.{Cutting, cut-begins, cut-more, cut-ends, cut-long, cut-on}
 use Rattle.job.proofs.cut.cut_line.Statement.{statement}
 use Rattle.job.proofs.cut.cut_line.Tie as tie
 use Rattle.job.proofs.cut.cut_line.Reads as reads
 use Rattle.job.proofs.cut.cut_line.Lts as lts
 
 abbrev Inv-loop : tie.InvT-loop
-Inv-loop line₀ have piece from i₀ n₀ line i n = ?
+Inv-loop line₀ have piece from i₀ n₀ line i n = Cutting (take have line₀) piece from line₀ line i n
 
 abbrev μ-loop : tie.MeasureT-loop
-μ-loop line₀ have piece from i₀ n₀ line i n = ?
+μ-loop line₀ have piece from i₀ n₀ line i n = length piece - i
 
--- src/cut.rt:25:5
 loop-holds : tie.Need-loop-holds Inv-loop μ-loop
-loop-holds c = ?
+loop-holds c = cut-begins (c .args .piece .now) (c .args .from) (c .args .line .now) (c .args .have) (omega arith) (c .pre .0)
 
--- src/cut.rt:26:17
 shared-slice-read-b : tie.Need-shared-slice-read-b Inv-loop μ-loop
-shared-slice-read-b c = ?
+shared-slice-read-b c = omega arith
 
--- src/cut.rt:30:23
 add-t12 : tie.Need-add-t12 Inv-loop μ-loop
-add-t12 c = ?
+add-t12 c = omega arith
 
--- src/cut.rt:28:13
 same-length : tie.Need-same-length Inv-loop μ-loop
-same-length c = ?
+same-length c = c .before .before .before .loop .inv .kept
 
--- src/cut.rt:28:13
 returns : tie.Need-returns Inv-loop μ-loop
-returns c = ?
+returns c =
+    let l = c .before .before .before in
+    let a = l .before .args in
+    let o = l .loop in
+    cut-ends (a .piece .now) (a .from) (a .line .now) (take (a .have) (a .line .now)) (o .line) (o .i) (o .n) (o .inv) (omega arith) (omega arith) (c .if1 .taken)
 
--- src/cut.rt:34:13
 same-length-2 : tie.Need-same-length-2 Inv-loop μ-loop
-same-length-2 c = ?
+same-length-2 c = c .before .before .before .before .loop .inv .kept
 
--- src/cut.rt:34:13
 returns-2 : tie.Need-returns-2 Inv-loop μ-loop
-returns-2 c = ?
+returns-2 c =
+    let l = c .before .before .before .before in
+    let a = l .before .args in
+    let o = l .loop in
+    cut-long (a .piece .now) (a .from) (a .line .now) (take (a .have) (a .line .now)) (o .line) (o .i) (o .n) (o .inv) (omega arith) (omega arith) (c .before .if1 .left) (omega arith)
 
--- src/cut.rt:36:9
 slice-write-line : tie.Need-slice-write-line Inv-loop μ-loop
-slice-write-line c = ?
+slice-write-line c = omega arith
 
--- src/cut.rt:37:9
 add-n : tie.Need-add-n Inv-loop μ-loop
-add-n c = ?
+add-n c = omega arith
 
--- src/cut.rt:38:9
 add-i : tie.Need-add-i Inv-loop μ-loop
-add-i c = ?
+add-i c = omega arith
 
--- src/cut.rt:25:5
 loop-less : tie.Need-loop-less Inv-loop μ-loop
-loop-less c = ?
+loop-less c = omega arith
 
--- src/cut.rt:25:5
 loop-again : tie.Need-loop-again Inv-loop μ-loop
-loop-again c = ?
+loop-again c =
+    let l = c .before .before .before .before in
+    let a = l .before .args in
+    let o = l .loop in
+    cut-on (a .piece .now) (a .from) (a .line .now) (take (a .have) (a .line .now)) (o .line) (o .i) (o .n) (o .inv) (omega arith) (omega arith) (c .before .if1 .left) (omega arith)
 
--- src/cut.rt:19:1
 same-length-3 : tie.Need-same-length-3 Inv-loop μ-loop
-same-length-3 c = ?
+same-length-3 c = c .before .loop .inv .kept
 
--- src/cut.rt:19:1
 returns-3 : tie.Need-returns-3 Inv-loop μ-loop
-returns-3 c = ?
+returns-3 c =
+    let l = c .before in
+    let a = l .before .args in
+    let o = l .loop in
+    cut-more (a .piece .now) (a .from) (a .line .now) (take (a .have) (a .line .now)) (o .line) (o .i) (o .n) (o .inv) (omega arith) (omega arith)
 
 pub cut-line-spec : {M : Type 1} → statement M
 cut-line-spec =

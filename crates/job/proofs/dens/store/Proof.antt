@@ -1,61 +1,64 @@
+use Prim.Native.Nat.{_+_, _-_, _≤_}
+use mathlib.Core.List.{_++_}
+use mathlib.Core.Path.{_≡_, refl, _∙_}
+use native.Mathlib.Omega.{arith}
+use lib.ListN.{length, take, length-set}
+use Rattle.text.proofs.Written.{copy-begins, copy-on}
 use Rattle.job.proofs.dens.store.Statement.{statement}
 use Rattle.job.proofs.dens.store.Tie as tie
 use Rattle.job.proofs.dens.store.Reads as reads
 use Rattle.job.proofs.dens.store.Lts as lts
 
 abbrev Inv-loop : tie.InvT-loop
-Inv-loop row n densities₀ at i₀ densities i = ?
+Inv-loop row n densities₀ at i₀ densities i = (i ≤ n) × (length densities ≡ length densities₀) × (take (at + i) densities ≡ take at densities₀ ++ take i row)
 
 abbrev μ-loop : tie.MeasureT-loop
-μ-loop row n densities₀ at i₀ densities i = ?
+μ-loop row n densities₀ at i₀ densities i = n - i
 
--- src/dens.rt:21:5
 loop-holds : tie.Need-loop-holds Inv-loop μ-loop
-loop-holds c = ?
+loop-holds c = (omega arith, refl, copy-begins (c .args .densities .now) (c .args .row .now) (c .args .at))
 
--- src/dens.rt:22:29
 mul-densities : tie.Need-mul-densities Inv-loop μ-loop
-mul-densities c = ?
+mul-densities c = omega arith
 
--- src/dens.rt:22:29
 shared-slice-read-densities : tie.Need-shared-slice-read-densities Inv-loop μ-loop
-shared-slice-read-densities c = ?
+shared-slice-read-densities c = omega arith
 
--- src/dens.rt:22:29
 cast-densities : tie.Need-cast-densities Inv-loop μ-loop
-cast-densities c = ?
+cast-densities c =
+    let l = c .before .before in
+    omega (arith, l .before .pre .2 (l .loop .i) (omega arith))
 
--- src/dens.rt:22:19
 add-densities : tie.Need-add-densities Inv-loop μ-loop
-add-densities c = ?
+add-densities c = omega arith
 
--- src/dens.rt:22:9
 mul-densities-2 : tie.Need-mul-densities-2 Inv-loop μ-loop
-mul-densities-2 c = ?
+mul-densities-2 c = omega arith
 
--- src/dens.rt:22:9
 slice-write-densities : tie.Need-slice-write-densities Inv-loop μ-loop
-slice-write-densities c = ?
+slice-write-densities c = omega arith
 
--- src/dens.rt:23:9
 add-i : tie.Need-add-i Inv-loop μ-loop
-add-i c = ?
+add-i c = omega arith
 
--- src/dens.rt:21:5
 loop-less : tie.Need-loop-less Inv-loop μ-loop
-loop-less c = ?
+loop-less c = omega arith
 
--- src/dens.rt:21:5
 loop-again : tie.Need-loop-again Inv-loop μ-loop
-loop-again c = ?
+loop-again c =
+    let l = c .before .before in
+    let a = l .before .args in
+    let o = l .loop in
+    (omega arith, length-set (o .densities) (a .at + o .i) _ ∙ o .inv .1, copy-on (o .densities) (a .densities .now) (a .row .now) (a .at) (o .i) (omega arith) (omega arith) (o .inv .2))
 
--- src/dens.rt:16:1
 same-length : tie.Need-same-length Inv-loop μ-loop
-same-length c = ?
+same-length c = c .before .loop .inv .1
 
--- src/dens.rt:16:1
 returns : tie.Need-returns Inv-loop μ-loop
-returns c = ?
+returns c =
+    let o = c .before .loop in
+    let e : o .i ≡ c .before .before .args .n = omega arith in
+    rw (← e) (o .inv .2)
 
 pub store-spec : {M : Type 1} → statement M
 store-spec =
