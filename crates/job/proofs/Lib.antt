@@ -4,3 +4,6 @@ pub mod Refusals
 pub mod Taking
 pub mod Fields
 pub mod Cutting
+pub mod Printing
+pub mod Steps
+pub mod Loading

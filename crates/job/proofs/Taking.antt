@@ -1,13 +1,13 @@
 -- What a grid that the job takes may be relied on for. Assumes nothing.
-use Prim.Native.Nat.{ℕ, suc, _+_, _*_, _≤_, _<_}
+use Prim.Native.Nat.{ℕ, zero, suc, _+_, _*_, _≤_, _<_}
 use mathlib.Core.Bool.{Bool, true, false, cond, _||_}
 use mathlib.Core.List.{[], _∷_}
-use mathlib.Core.Path.{_≡_, refl}
+use mathlib.Core.Path.{_≡_, refl, sym, _∙_}
 use lib.Dec.{eqb, ltb}
-use native.Mathlib.Nat.{mul-le-mul, mul-le-mul-right}
+use native.Mathlib.Nat.{mul-le-mul, mul-le-mul-left, mul-le-mul-right, mul-assoc, mul-comm, mul-left-comm}
 use native.Mathlib.Decide.{decLe}
 use native.Mathlib.Omega.{arith}
-use borrow.Author.Tests.{eqb-false, ltb-false}
+use borrow.Author.Tests.{eqb-false, ltb-false, ne-eqb}
 use Rattle.axis.specs.declared.Axis.{Axis}
 use Rattle.axis.specs.Codes.{bench, row, first, planesOut}
 use Rattle.axis.proofs.Flag.{or-left, or-right}
@@ -51,6 +51,15 @@ module _ (g : Grid) where
   pub code-then : gridCode g ≡ cond (eqb (first (gridRows bench g)) 0) (cond (ltb 4096 (count (volume g))) 25 0) (first (gridRows bench g))
   code-then = behind-table (some noN) (some noD) (some (planesOut bench)) (cond (ltb 4096 (count (volume g))) 25 0)
 
+  -- the job takes a grid that no code refuses
+  pub code-zero : gridCode g ≡ 0 → (first (gridRows bench g) ≡ 0) × (count (volume g) ≤ 4096)
+  code-zero e = go (first (gridRows bench g)) (ltb 4096 (count (volume g))) refl (sym code-then ∙ e)
+    where
+      go : (code : ℕ) (many : Bool) → ltb 4096 (count (volume g)) ≡ many → cond (eqb code 0) (cond many 25 0) code ≡ 0 → (code ≡ 0) × (count (volume g) ≤ 4096)
+      go zero true m f = absurd (omega arith)
+      go zero false m f = (refl, ltb-false 4096 (count (volume g)) m)
+      go (suc code) many m f = let f′ : suc code ≡ 0 = rw (ne-eqb (suc code) 0 (λ z. omega arith)) at f in absurd (omega arith)
+
   pub sides : first (gridRows bench g) ≡ 0 → Sides (g .x .n) (g .y .n) (g .z .n)
   sides e =
       let n : some noN ≡ false = only-first (some noN) (some noD) (some (planesOut bench)) e in
@@ -60,6 +69,10 @@ module _ (g : Grid) where
         y = within (g .y .n) (or-left (noN (g .y)) (noN (g .z)) yz);
         z = within (g .z .n) (or-right (noN (g .y)) (noN (g .z)) yz);
       }
+
+-- as many densities as ny·nz lines of nx hold
+pub all-lines : (nx ny nz : ℕ) → ny * nz * nx ≡ nx * ny * nz
+all-lines nx ny nz = simp (mul-assoc, mul-comm, mul-left-comm)
 
 -- products that fit 32 bits
 module _ (nx ny nz : ℕ) (s : Sides nx ny nz) where
@@ -72,7 +85,27 @@ module _ (nx ny nz : ℕ) (s : Sides nx ny nz) where
   pub voxels-fit : nx * ny * nz ≤ 134217728
   voxels-fit = mul-le-mul {n₂ = 262144} {m₂ = 512} rows-fit (s .z .1)
 
-  -- The lists of 600 places suffice. Of three sides with at most 4096 voxels two are at most 45, since 46·46·2 is more; or two
-  -- are more, and then the third is 1.
-  pub few-planes : nx * ny * nz ≤ 4096 → nx + ny + nz ≤ 602
-  few-planes h = ?
+-- two sides of more than 45 voxels leave the third with one
+two-long : (a b c : ℕ) → 46 ≤ a → 46 ≤ b → 0 < c → a * b * c ≤ 4096 → a + b + c ≤ 602
+two-long a b c ha hb hc h =
+    let area : 2116 ≤ a * b = mul-le-mul {n₁ = 46} {m₁ = 46} ha hb in
+    omega (arith, mul-le-mul-right {m = 2116} {n = a * b} c area, mul-le-mul-left {m = 1} {n = c} (a * b) hc, mul-le-mul-right {m = 46} {n = a} b ha, mul-le-mul-left {m = 46} {n = b} a hb)
+
+-- The lists of 600 places suffice: of three sides with at most 4096 voxels two are at most 45 long, or one is 1 long.
+pub few-planes : (nx ny nz : ℕ) → Sides nx ny nz → nx * ny * nz ≤ 4096 → nx + ny + nz ≤ 602
+few-planes nx ny nz s h = elim (decLe nx 45) [
+  | yes i ↦ elim (decLe ny 45) [
+    | yes j ↦ omega arith
+    | no j ↦ elim (decLe nz 45) [
+      | yes k ↦ omega arith
+      | no k ↦ let e : nx * ny * nz ≡ ny * nz * nx = simp (mul-assoc, mul-comm, mul-left-comm) in omega (arith, two-long ny nz nx (omega arith) (omega arith) (s .x .0) (omega arith))
+    ]
+  ]
+  | no i ↦ elim (decLe ny 45) [
+    | yes j ↦ elim (decLe nz 45) [
+      | yes k ↦ omega arith
+      | no k ↦ let e : nx * ny * nz ≡ nx * nz * ny = simp (mul-assoc, mul-comm, mul-left-comm) in omega (arith, two-long nx nz ny (omega arith) (omega arith) (s .y .0) (omega arith))
+    ]
+    | no j ↦ two-long nx ny nz (omega arith) (omega arith) (s .z .0) h
+  ]
+]

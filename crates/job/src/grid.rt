@@ -71,7 +71,7 @@ fn taken_code(g: Grid) -> u32
 }
 
 pub fn take_grid(st: State, line: &[u8], out: &mut [u8], at: usize) -> Moved
-    requires { ⌜ Sound st × Ready st at (length (now out)) ⌝ }
+    requires { ⌜ Sound st × Ready st at (length (now out)) × (st .lines ≡ 0) ⌝ }
     ensures { λ r. ⌜ Kept st at r ⌝ }
     ensures { λ r. ⌜ ((ds : List ℕ) → stepIs (r .going) (take (r .at) (now (out .exit))) (standOf (r .state) ds) ≡ after (take at (now (out .entry))) (gridStep (st .lines) (gridIn (split 9 (now (line .entry)))))) ⌝ }
 {
