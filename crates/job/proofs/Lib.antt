@@ -7,3 +7,6 @@ pub mod Cutting
 pub mod Printing
 pub mod Steps
 pub mod Loading
+pub mod Flow
+pub mod Places
+pub mod Ending
