@@ -10,3 +10,4 @@ pub mod Loading
 pub mod Flow
 pub mod Places
 pub mod Ending
+pub mod Turns
