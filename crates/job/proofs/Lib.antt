@@ -11,3 +11,4 @@ pub mod Flow
 pub mod Places
 pub mod Ending
 pub mod Turns
+pub mod Running
