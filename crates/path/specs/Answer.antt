@@ -7,7 +7,7 @@ use lib.ListN.{length, take, drop}
 use Rattle.axis.specs.Codes.{bench, first}
 use Rattle.ray.specs.declared.Grid.{Grid}
 use Rattle.ray.specs.declared.Ray.{Ray}
-use Rattle.ray.specs.Length.{volume, dOf, squaredOf, spanOf, partOf, listOf, sumOf, crossedOf}
+use Rattle.ray.specs.Length.{Volume, volume, dOf, squaredOf, spanOf, partOf, listOf, sumOf, crossedOf}
 use Rattle.ray.specs.Codes.{traceRows}
 use Rattle.path.specs.declared.Trace.{Trace}
 
@@ -19,20 +19,20 @@ codeOf g r densities voxels parts filled = first (traceRows bench g r densities 
 abbrev pub refused : ℕ → Trace
 refused c = record { entries = 0; crossed = 0; span = 0; d = 0; squared = 0; sum = 0; code = c }
 
-abbrev pub accepted : Grid → Ray → List ℕ → Trace
-accepted g r densities = record {
-  entries = length (listOf (volume g) r);
-  crossed = crossedOf (volume g) r;
-  span = spanOf (volume g) r;
+abbrev pub accepted : Volume → Ray → List ℕ → Trace
+accepted v r densities = record {
+  entries = length (listOf v r);
+  crossed = crossedOf v r;
+  span = spanOf v r;
   d = dOf r;
   squared = squaredOf r;
-  sum = sumOf (volume g) r densities;
+  sum = sumOf v r densities;
   code = 0;
 }
 
 unfoldable pub answerOf : Grid → Ray → List ℕ → (voxels parts filled : ℕ) → Trace
 answerOf g r densities voxels parts filled =
-    let c : ℕ = codeOf g r (length densities) voxels parts filled in cond (eqb c 0) (accepted g r densities) (refused c)
+    let c : ℕ = codeOf g r (length densities) voxels parts filled in cond (eqb c 0) (accepted (volume g) r densities) (refused c)
 
 -- a list with new values behind its first `filled` places, "later places as they were"
 abbrev pub written : ℕ → List ℕ → List ℕ → List ℕ

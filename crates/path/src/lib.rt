@@ -1,4 +1,8 @@
 // The trace: which voxels a ray passes, how much of it lies in each, and the weighted sum.
+pub mod accept;
+pub mod calls;
+pub mod scene;
+pub mod weigh;
 
 // What a trace hands back beside the two lists. Where the code is not 0 every other field is.
 pub struct Trace {

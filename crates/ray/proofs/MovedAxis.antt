@@ -16,7 +16,7 @@ use Rattle.axis.proofs.Flag.{lt-not-le}
 sign-sub : (a b : ℕ) → nonNeg (subℕ a b) ≡ leb b a
 sign-sub a b = elim (decLt a b) [ yes h ↦ rw (lt-ltb a b h, lt-leb b a h) | no h ↦ rw (le-ltb a b (omega arith), le-leb b a (omega arith)) ]
 
-le-sign : (a b : ℤ) → leZ a b ≡ nonNeg (b -ℤ a)
+pub le-sign : (a b : ℤ) → leZ a b ≡ nonNeg (b -ℤ a)
 le-sign (pos zero) (pos b) = leb·zero b
 le-sign (pos (suc a)) (pos b) = sym (sign-sub b (suc a))
 le-sign (pos zero) (negsuc b) = sym (sign-sub 0 (suc b) ∙ leb·suc-zero b)
@@ -24,7 +24,7 @@ le-sign (pos (suc a)) (negsuc b) = refl
 le-sign (negsuc a) (pos b) = refl
 le-sign (negsuc a) (negsuc b) = sym (sign-sub (suc a) (suc b) ∙ leb·suc-suc b a)
 
-lt-le : (a b : ℤ) → ltZ a b ≡ not (leZ b a)
+pub lt-le : (a b : ℤ) → ltZ a b ≡ not (leZ b a)
 lt-le (pos a) (pos b) = lt-not-le a b
 lt-le (pos a) (negsuc b) = refl
 lt-le (negsuc a) (pos b) = refl

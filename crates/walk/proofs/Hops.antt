@@ -6,7 +6,7 @@ use native.Mathlib.Omega.{arith}
 use native.Mathlib.Nat.{mod-eq-of-lt, add-mod-right, add-mul, suc-mul, one-mul, mul-le-mul, mul-assoc, mul-le-mul-right}
 use lib.Dec.{eqb}
 use Rattle.ray.specs.Length.{Side, X, Y, Z, Volume}
-use Rattle.walk.specs.Model.{hop}
+use Rattle.walk.specs.Plan.{unit}
 use Rattle.walk.proofs.Units.{Way, up, down, still}
 use Rattle.walk.proofs.Stretch.{onward}
 use Rattle.walk.proofs.Numbers.{number}
@@ -36,11 +36,6 @@ hopped : (b : Bool) (w : Way) (unit x base i : ℕ) → Jump w unit x → (b ≡
     → cond b ((base + i * unit + x) % 2 ^ 64) (base + i * unit) ≡ base + cond b (onward w i) i * unit
 hopped true w unit x base i j l h = jump w unit x base i j (l refl) h
 hopped false w unit x base i j l h = refl
-
-abbrev pub unit : Volume → Side → ℕ
-unit v X = 1
-unit v Y = v X .n
-unit v Z = v Y .n * v X .n
 
 -- the number, counted by one axis
 module _ (v : Volume) (k j i : ℕ) where

@@ -9,3 +9,13 @@ pub mod Scenes
 pub mod Hops
 pub mod Walking
 pub mod Found
+pub mod Index
+pub mod Sizes
+pub mod Frames
+pub mod Crossing
+pub mod Plans
+pub mod SetOut
+pub mod Missed
+pub mod FewPlanes
+pub mod Alphas
+pub mod Counts

@@ -64,7 +64,7 @@ module _ (s : Scene) where
   stop-array = ap (min (dOf ray)) (least-same (λ o. leaves (rest ray o) (leg ray o) (array vol o)) _ (λ o. leaves-at o 0 (line s o .n) (omega arith)))
 
   -- a box is held on every side, or not at all
-  all-held : (b : Side → Bool) → (b X && (b Y && b Z)) ≡ true → (o : Side) → b o ≡ true
+  pub all-held : (b : Side → Bool) → (b X && (b Y && b Z)) ≡ true → (o : Side) → b o ≡ true
   all-held b h X = and-left (b X) _ h
   all-held b h Y = and-left (b Y) _ (and-right (b X) _ h)
   all-held b h Z = and-right (b Y) _ (and-right (b X) _ h)

@@ -57,6 +57,9 @@ abs-diff′ : (a b : ℕ) → a < b → natAbs (pos a -ℤ pos b) ≡ b - a
 abs-diff′ a zero h = absurd (omega arith)
 abs-diff′ a (suc b) h = rw (sub-lt a (suc b) h) (omega arith)
 
+pub abs-gap : (p q : ℕ) → natAbs (pos q -ℤ pos p) ≡ (p - q) + (q - p)
+abs-gap p q = elim (decLt q p) [ yes h ↦ abs-diff′ q p h ∙ omega arith | no h ↦ abs-diff q p (omega arith) ∙ omega arith ]
+
 pub moves : (p q : ℕ) → (p ≡ q → ⊥) → moving (legN p q) ≡ true
 moves p q h = elim (decLt p q) [ yes k ↦ rw (lt-ltb p q k) refl | no k ↦ rw (le-ltb p q (omega arith), lt-ltb q p (omega arith)) refl ]
 
@@ -67,6 +70,13 @@ pub factor-is : (w : Way) (p q : ℕ) → Goes w p q → factor (legN p q) ≡ f
 factor-is up p q g = rw (lt-ltb p q g) (abs-diff q p (omega arith))
 factor-is down p q g = rw (le-ltb p q (omega arith), lt-ltb q p g) (abs-diff′ q p g)
 factor-is still p q g = rw (le-ltb p q (omega arith), le-ltb q p (omega arith)) refl
+
+-- how far along a place is, on a moving axis
+pub run-up : (p q x : ℕ) → p < q → run (legN p q) (pos x) ≡ x - p
+run-up p q x g = rw (lt-ltb p q g) (natural-diff x p)
+
+pub run-down : (p q x : ℕ) → q < p → run (legN p q) (pos x) ≡ p - x
+run-down p q x g = rw (le-ltb p q (omega arith)) (natural-diff p x)
 
 pub enters-is : (w : Way) (p q lo hi rest : ℕ) → Goes w p q → lo ≤ hi → enters rest (legN p q) (slabN lo hi) ≡ enterBy w p lo hi * rest
 enters-is up p q lo hi rest g h = rw (lt-ltb p q g, natural-diff lo p, natural-diff hi p) (ap (λ (x : ℕ). x * rest) (omega arith))

@@ -13,29 +13,14 @@ use Rattle.walk.specs.declared.line.Scene.{Scene}
 use Rattle.walk.specs.declared.steps.Walk.{Walk}
 use Rattle.walk.specs.declared.steps.Strides.{Strides}
 use Rattle.walk.specs.Scene.{line, Able}
-use Rattle.walk.specs.Model.{soonest, further, stepped}
+use Rattle.walk.specs.Model.{leaveOf, stepOf, jumpOf, soonest, stepped}
+use Rattle.walk.specs.Plan.{unit}
 use Rattle.walk.proofs.Units.{Way, up, down, still, HeldBy}
 use Rattle.walk.proofs.Three.{most, least, most-le, le-most, least-le, least-one, lt-least, least-mono, most-mono, most-same, least-same}
 use Rattle.walk.proofs.Stretch.{onward, Next, next, enter-whole, leave-whole, one-voxel, HeldAt}
 use Rattle.walk.proofs.Numbers.{number, place-number, number-below, place-below, number-place}
 use Rattle.walk.proofs.Scenes.{vol, ray, way, enter, leave, Held, start-voxel, stop-voxel, start-array, stop-array, Met, met, part-met, rest-some}
-use Rattle.walk.proofs.Hops.{Jump, Left, unit, number-small, all-over}
-
--- the walk's fields by side
-abbrev pub leaveOf : Walk → Side → ℕ
-leaveOf w X = w .x
-leaveOf w Y = w .y
-leaveOf w Z = w .z
-
-abbrev pub stepOf : Strides → Side → ℕ
-stepOf t X = t .dx
-stepOf t Y = t .dy
-stepOf t Z = t .dz
-
-abbrev pub jumpOf : Strides → Side → ℕ
-jumpOf t X = t .vx
-jumpOf t Y = t .vy
-jumpOf t Z = t .vz
+use Rattle.walk.proofs.Hops.{Jump, Left, number-small, all-over}
 
 -- the strides are those of the scene
 pub record Paced (s : Scene) (t : Strides) : Type 0 where
@@ -129,7 +114,7 @@ module _ (s : Scene) (able : Able s) where
     pub soon-later : w .t < soonest w
     soon-later = lt-least (leaveOf w) (w .t) (λ o. rw (on .leaves o) (on .until o))
 
-    to-d : to ≤ dOf (ray s)
+    pub to-d : to ≤ dOf (ray s)
     to-d = rw (stop-array s) (cut-le (dOf (ray s)) (least (λ o. leave s o 0 (line s o .n))))
 
     here-part : partOf (vol s) (ray s) here ≡ min (dOf (ray s)) (soonest w) - w .t
@@ -178,7 +163,7 @@ module _ (s : Scene) (able : Able s) where
           lt-of-le-of-lt (rw (on .leaves o) at (le-of-eq e))
           (lt-of-lt-of-le (under-least (dOf (ray s)) (soonest w) _ (rw (stop-array s) at more)) (least-le (λ x. leave s x 0 (line s x .n)) o))
 
-      next-at : (o : Side) → leaveOf w o ≡ soonest w → Next (way s o) (line s o) (rest (ray s) o) (at o)
+      pub next-at : (o : Side) → leaveOf w o ≡ soonest w → Next (way s o) (line s o) (rest (ray s) o) (at o)
       next-at o e = next (line s o) (rest (ray s) o) (way s o) (at o) (on .inside o) (omega (arith, on .until o)) (leave-less o e)
 
       -- what is kept on one axis

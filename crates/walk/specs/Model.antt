@@ -5,8 +5,25 @@ use mathlib.Core.List.{List, [], _∷_, map}
 use mathlib.Core.Path.{_≡_}
 use lib.Dec.{eqb, leb}
 use lib.ListN.{length, take, drop}
+use Rattle.ray.specs.Length.{Side, X, Y, Z}
 use Rattle.walk.specs.declared.steps.Walk.{Walk}
 use Rattle.walk.specs.declared.steps.Strides.{Strides}
+
+-- the walk's fields by side
+abbrev pub leaveOf : Walk → Side → ℕ
+leaveOf w X = w .x
+leaveOf w Y = w .y
+leaveOf w Z = w .z
+
+abbrev pub stepOf : Strides → Side → ℕ
+stepOf t X = t .dx
+stepOf t Y = t .dy
+stepOf t Z = t .dz
+
+abbrev pub jumpOf : Strides → Side → ℕ
+jumpOf t X = t .vx
+jumpOf t Y = t .vy
+jumpOf t Z = t .vz
 
 -- the tick at which the walk leaves its voxel
 abbrev pub soonest : Walk → ℕ

@@ -2,4 +2,6 @@
 pub mod entries;
 pub mod extremes;
 pub mod line;
+pub mod plan;
+pub mod reach;
 pub mod steps;

@@ -1,18 +1,17 @@
+use native.Mathlib.Omega.{arith}
+use Rattle.walk.proofs.Stretch.{plane-mono}
 use borrow.Author.Needs.{needs}
 use Rattle.walk.proofs.line.Line.plane.Statement.{statement}
 use Rattle.walk.proofs.line.Line.plane.Tie as tie
 use Rattle.walk.proofs.line.Line.plane.Reads as reads
 use Rattle.walk.proofs.line.Line.plane.Lts as lts
 
--- src/line.rt:84:18
 mul-result : tie.Need-mul-result
-mul-result c = ?
+mul-result c = record { fits = omega (arith, plane-mono (c .before .args .self) (c .before .pre .1), c .before .pre .0 .far-size) }
 
--- src/line.rt:84:9
 add-result : tie.Need-add-result
-add-result c = ?
+add-result c = record { fits = omega (arith, plane-mono (c .before .before .args .self) (c .before .before .pre .1), c .before .before .pre .0 .far-size) }
 
--- src/line.rt:80:5
 returns : tie.Need-returns
 returns c = search needs
 

@@ -1,0 +1,7 @@
+-- Laws of the trace.
+pub mod Accepting
+pub mod Raised
+pub mod Weighing
+pub mod Hits
+pub mod Answering
+pub mod Appending

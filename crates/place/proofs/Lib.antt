@@ -1,0 +1,16 @@
+-- Laws of the places for drawing, for the crates above.
+pub mod Accepted
+pub mod Raised
+pub mod Deciding
+pub mod Sizes
+pub mod Found
+pub mod Quotient
+pub mod Rounded
+pub mod Shown
+pub mod Signed
+pub mod Difference
+pub mod Within
+pub mod OnLeg
+pub mod Placed
+pub mod Pointed
+pub mod Bench

@@ -1,0 +1,70 @@
+-- `call::place` meets its contract. Assumes nothing.
+use native.Mathlib.Omega.{arith}
+use mathlib.Core.Path.{_≡_, sym, ap, _∙_}
+use Rattle.axis.specs.Codes.{bench}
+use Rattle.ray.specs.declared.Grid.{Grid}
+use Rattle.ray.specs.declared.Ray.{Ray}
+use Rattle.place.specs.declared.fraction.Fraction.{Fraction}
+use Rattle.place.specs.declared.crossing.Crossing.{Crossing}
+use Rattle.place.specs.declared.crossing.Crossing.the-variants.{Miss, Through}
+use Rattle.place.specs.Answers.{placeOf}
+use Rattle.place.proofs.Found.{Hit, hit}
+use Rattle.place.proofs.Placed.{placed, place-is}
+use borrow.Author.Needs.{needs}
+use Rattle.place.proofs.call.place.Statement.{statement}
+use Rattle.place.proofs.call.place.Tie as tie
+
+-- what was found, and the answer that follows
+module _ (c : tie.After-across) where
+  abbrev g : Grid
+  g = c .before .args .g
+
+  abbrev r : Ray
+  r = c .before .args .r
+
+  answer : (k : Crossing) → c .across .result ≡ k → placed k ≡ placeOf bench g r
+  answer k h = ap placed (sym h ∙ c .across .ensures) ∙ place-is bench g r (omega arith)
+
+  hits : (e l : Fraction) → c .across .result ≡ Through e l → Hit bench g r (omega arith) e l
+  hits e l h = hit bench g r (omega arith) e l (sym (c .across .ensures) ∙ h)
+
+across-requires : tie.Need-across-requires
+across-requires c κs = search needs
+
+enum-known-c : tie.Need-enum-known-c
+enum-known-c c = search needs
+
+enum-told : tie.Need-enum-told
+enum-told c = search needs
+
+enum-known-c-2 : tie.Need-enum-known-c-2
+enum-known-c-2 c = search needs
+
+quotient-requires : tie.Need-quotient-requires
+quotient-requires c κs = let f = hits (c .before .before .before) _ _ (c .before .c2 .given .1) .enters in ((omega (arith, f .small .0), omega (arith, f .small .1)), f .some)
+
+quotient-requires-2 : tie.Need-quotient-requires-2
+quotient-requires-2 c κs = let f = hits (c .before .before .before .before) _ _ (c .before .before .c2 .given .1) .leaves in ((omega (arith, f .small .0), omega (arith, f .small .1)), f .some)
+
+returns : tie.Need-returns
+returns c = answer (c .before .before .before) _ (c .before .c .given .1)
+
+returns-2 : tie.Need-returns-2
+returns-2 c = answer (c .before .before) Miss (c .enum-told .given .1)
+
+returns-3 : tie.Need-returns-3
+returns-3 c = rw (c .before .quotient .ensures, c .quotient2 .ensures) (answer (c .before .before .before .before .before) _ (c .before .before .before .c2 .given .1))
+
+pub place-spec : {M : Type 1} → statement M
+place-spec =
+    tie.close
+    (tie.spec
+    across-requires
+    enum-known-c
+    enum-told
+    enum-known-c-2
+    quotient-requires
+    quotient-requires-2
+    returns
+    returns-2
+    returns-3)

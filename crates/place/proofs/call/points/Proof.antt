@@ -1,0 +1,93 @@
+-- `call::points` meets its contract. Assumes nothing.
+use native.Mathlib.Omega.{arith}
+use mathlib.Core.Path.{_≡_, sym, ap, _∙_}
+use mathlib.Core.Bool.{true}
+use Rattle.axis.specs.Codes.{bench, inside}
+use Rattle.ray.specs.declared.Grid.{Grid}
+use Rattle.ray.specs.declared.Ray.{Ray}
+use Rattle.ray.specs.Length.{Side, X, Y, Z, leg}
+use Rattle.place.specs.declared.fraction.Fraction.{Fraction}
+use Rattle.place.specs.declared.crossing.Crossing.{Crossing}
+use Rattle.place.specs.declared.crossing.Crossing.the-variants.{Miss, Through}
+use Rattle.place.specs.Answers.{pointsOf}
+use Rattle.place.proofs.Found.{Hit, hit}
+use Rattle.place.proofs.Placed.{enter-low, leave-low}
+use Rattle.place.proofs.Pointed.{pointed, points-is}
+use borrow.Author.Needs.{needs}
+use Rattle.place.proofs.call.points.Statement.{statement}
+use Rattle.place.proofs.call.points.Tie as tie
+
+-- what was found, and the answer that follows
+module _ (c : tie.After-across) where
+  abbrev g : Grid
+  g = c .before .args .g
+
+  abbrev r : Ray
+  r = c .before .args .r
+
+  answer : (k : Crossing) → c .across .result ≡ k → pointed r k ≡ pointsOf bench g r
+  answer k h = ap (pointed r) (sym h ∙ c .across .ensures) ∙ points-is bench g r (omega arith)
+
+  module _ (e l : Fraction) (h : c .across .result ≡ Through e l) where
+    hits : Hit bench g r (omega arith) e l
+    hits = hit bench g r (omega arith) e l (sym (c .across .ensures) ∙ h)
+
+    inner : (s : Side) → (inside bench (leg r s .p) ≡ true) × (inside bench (leg r s .q) ≡ true)
+    inner s = (hits .ok .from s, hits .ok .to s)
+
+across-requires : tie.Need-across-requires
+across-requires c κs = search needs
+
+enum-known-c : tie.Need-enum-known-c
+enum-known-c c = search needs
+
+unplaced-requires : tie.Need-unplaced-requires
+unplaced-requires c κs = search needs
+
+enum-told : tie.Need-enum-told
+enum-told c = search needs
+
+unplaced-requires-2 : tie.Need-unplaced-requires-2
+unplaced-requires-2 c κs = search needs
+
+enum-known-c-2 : tie.Need-enum-known-c-2
+enum-known-c-2 c = search needs
+
+point-at-requires : tie.Need-point-at-requires
+point-at-requires c κs =
+    let k = c .before .before .before in
+    let i = inner k _ _ (c .before .c2 .given .1) in
+    let H = hits k _ _ (c .before .c2 .given .1) in
+    (i X, (i Y, (i Z, (H .enters .small, (enter-low bench (g k) (r k) (omega arith) _ _ H, H .enters .some)))))
+
+point-at-requires-2 : tie.Need-point-at-requires-2
+point-at-requires-2 c κs =
+    let k = c .before .before .before .before in
+    let i = inner k _ _ (c .before .before .c2 .given .1) in
+    let H = hits k _ _ (c .before .before .c2 .given .1) in
+    (i X, (i Y, (i Z, (H .leaves .small, (leave-low bench (g k) (r k) (omega arith) _ _ H, H .leaves .some)))))
+
+returns : tie.Need-returns
+returns c = c .unplaced .ensures ∙ answer (c .before .before .before .before) _ (c .before .before .c .given .1)
+
+returns-2 : tie.Need-returns-2
+returns-2 c = c .unplaced2 .ensures ∙ answer (c .before .before .before) Miss (c .before .enum-told .given .1)
+
+returns-3 : tie.Need-returns-3
+returns-3 c = rw (c .before .point-at .ensures, c .point-at2 .ensures) (answer (c .before .before .before .before .before) _ (c .before .before .before .c2 .given .1))
+
+pub points-spec : {M : Type 1} → statement M
+points-spec =
+    tie.close
+    (tie.spec
+    across-requires
+    enum-known-c
+    unplaced-requires
+    enum-told
+    unplaced-requires-2
+    enum-known-c-2
+    point-at-requires
+    point-at-requires-2
+    returns
+    returns-2
+    returns-3)

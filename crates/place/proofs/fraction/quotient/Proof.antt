@@ -1,0 +1,18 @@
+-- `fraction::quotient` meets its contract. Assumes nothing.
+use native.Mathlib.Omega.{arith}
+use lib.IntN.{pos}
+use Rattle.place.proofs.Quotient.{whole-in, quotient-is}
+use Rattle.place.proofs.fraction.quotient.Statement.{statement}
+use Rattle.place.proofs.fraction.quotient.Tie as tie
+
+int-to-float-result : tie.Need-int-to-float-result
+int-to-float-result c = whole-in (pos (c .before .args .f .num)) (omega arith)
+
+int-to-float-result-2 : tie.Need-int-to-float-result-2
+int-to-float-result-2 c = whole-in (pos (c .before .before .args .f .den)) (omega arith)
+
+returns : tie.Need-returns
+returns c = let f = c .before .before .args .f in quotient-is (pos (f .num)) (f .den) (omega arith) (omega arith) (omega arith)
+
+pub quotient-spec : {M : Type 1} → statement M
+quotient-spec = tie.close (tie.spec int-to-float-result int-to-float-result-2 returns)

@@ -1,0 +1,61 @@
+// The place call and the point call.
+ghost use mathlib.Core.Path.{_≡_};
+ghost use Rattle.axis.specs.Codes.{bench};
+ghost use Rattle.place.specs.Answers.{placeOf, nowhere, pointsOf};
+use crate::Mark;
+use crate::Place;
+use crate::Point;
+use crate::Points;
+use crate::coordinate::point_at;
+use crate::crossing::Crossing;
+use crate::crossing::across;
+use crate::fraction::quotient;
+use ray::Grid;
+use ray::Ray;
+
+pub fn place(g: Grid, r: Ray) -> Place
+    ensures { λ a. ⌜ a ≡ placeOf bench g r ⌝ }
+{
+    let c = across(g, r);
+    match c {
+        Crossing::Refused(code) => Place::Refused(code),
+        Crossing::Miss => Place::Miss,
+        Crossing::Through(e, l) => {
+            let enter = quotient(e);
+            let leave = quotient(l);
+            Place::Hit { enter, leave }
+        }
+    }
+}
+
+// No points: all six coordinates are positive zero.
+fn unplaced(mark: Mark) -> Points
+    ensures { λ a. ⌜ a ≡ nowhere mark ⌝ }
+{
+    let p = Point {
+        x: 0.0,
+        y: 0.0,
+        z: 0.0,
+    };
+    Points {
+        mark,
+        enter: p,
+        leave: p,
+    }
+}
+
+pub fn points(g: Grid, r: Ray) -> Points
+    ensures { λ a. ⌜ a ≡ pointsOf bench g r ⌝ }
+{
+    let c = across(g, r);
+    match c {
+        Crossing::Refused(code) => unplaced(Mark::Refused(code)),
+        Crossing::Miss => unplaced(Mark::Miss),
+        Crossing::Through(e, l) => {
+            let mark = Mark::Hit;
+            let enter = point_at(r, e);
+            let leave = point_at(r, l);
+            Points { mark, enter, leave }
+        }
+    }
+}

@@ -1,0 +1,136 @@
+-- Voxels that a ray meets follow one another: it leaves the one before it enters the other, or as it does. Of a volume it is only
+-- used that its planes do not fall. Assumes nothing.
+use Prim.Native.Nat.{ℕ, _+_, _*_, _≤_, _<_, min, max}
+use mathlib.Core.Path.{_≡_, refl, sym, ap, subst}
+use mathlib.Core.Bool.{Bool, true, false, _&&_, _||_, cond}
+use mathlib.Core.Logic.{_⊎_, inl, inr, ⊎-elim}
+use native.Mathlib.Nat.{min-le-left, min-le-right, le-max-left, le-max-right, le-trans, le-of-lt, lt-of-lt-of-le, lt-irrefl}
+use native.Mathlib.Omega.{arith}
+use native.Mathlib.Decide.{decLt, ℕ-discrete}
+use lib.IntN.{ℤ}
+use lib.Signed.{leZ, ltZ}
+use Rattle.axis.specs.Leg.{moving, run, Slab, held}
+use Rattle.axis.proofs.Flag.{and-left, and-right}
+use Rattle.ray.specs.declared.Ray.{Ray}
+use Rattle.ray.specs.Length.{Side, X, Y, Z, leg, dOf, rest, Volume, count, place, voxel, holds, start, stop, partOf}
+use Rattle.ray.proofs.Through.{min-cap-rises, times-rises}
+use Rattle.ray.proofs.Told.{le-shift, lt-shift, level, natural-rises, natural-falls}
+use Rattle.ray.proofs.Planes.{Rise, rise-to}
+use Rattle.ray.proofs.Listing.{Apart, starts}
+use Rattle.ray.proofs.Places.{place-below, place-same}
+use Rattle.ray.proofs.Capped.{on, enter, leave, begin, begin-sides, stop-sides, part-voxel, Met, met}
+
+-- ---- one side
+
+module _ (r : Ray) (s : Side) where
+  cap-le : (x y : ℕ) → x ≤ y → min (dOf r) (x * rest r s) ≤ min (dOf r) (y * rest r s)
+  cap-le x y h = min-cap-rises (dOf r) (x * rest r s) (y * rest r s) (times-rises (rest r s) x y h)
+
+  on-rises : (c c′ : ℤ) → ltZ (leg r s .p) (leg r s .q) ≡ true → leZ c c′ ≡ true → on r s c ≤ on r s c′
+  unfolding on
+  on-rises c c′ u h = cap-le (run (leg r s) c) (run (leg r s) c′) (rw u (natural-rises c c′ (leg r s .p) h))
+
+  on-falls : (c c′ : ℤ) → ltZ (leg r s .p) (leg r s .q) ≡ false → leZ c c′ ≡ true → on r s c′ ≤ on r s c
+  unfolding on
+  on-falls c c′ u h = cap-le (run (leg r s) c′) (run (leg r s) c) (rw u (natural-falls c c′ (leg r s .p) h))
+
+  -- of two slabs, t below t′, one is left before the other is entered
+  module _ (t t′ : Slab) (h : leZ (t .lo) (t .hi) ≡ true) (gap : leZ (t .hi) (t′ .lo) ≡ true) (h′ : leZ (t′ .lo) (t′ .hi) ≡ true) where
+    not-both : (p : ℤ) → (leZ (t .lo) p && ltZ p (t .hi)) ≡ true → (leZ (t′ .lo) p && ltZ p (t′ .hi)) ≡ true → ⊥
+    not-both p a b = level p (t .hi) (t′ .lo) (λ k hp hi lo. omega (
+      arith,
+      lt-shift k p (t .hi) hp hi (and-right (leZ (t .lo) p) (ltZ p (t .hi)) a),
+      le-shift k (t .hi) (t′ .lo) hi lo gap,
+      le-shift k (t′ .lo) p lo hp (and-left (leZ (t′ .lo) p) (ltZ p (t′ .hi)) b),
+    ))
+
+    apart-side : held (leg r s) t ≡ true → held (leg r s) t′ ≡ true → (leave r s t ≤ enter r s t′) ⊎ (leave r s t′ ≤ enter r s t)
+    unfolding enter leave
+    apart-side = go (moving (leg r s)) (ltZ (leg r s .p) (leg r s .q)) refl
+      where
+        go : (m u : Bool) → ltZ (leg r s .p) (leg r s .q) ≡ u
+            → (m || (leZ (t .lo) (leg r s .p) && ltZ (leg r s .p) (t .hi))) ≡ true
+            → (m || (leZ (t′ .lo) (leg r s .p) && ltZ (leg r s .p) (t′ .hi))) ≡ true
+            → (cond m (max (on r s (t .lo)) (on r s (t .hi))) (dOf r) ≤ cond m (min (on r s (t′ .lo)) (on r s (t′ .hi))) 0)
+            ⊎ (cond m (max (on r s (t′ .lo)) (on r s (t′ .hi))) (dOf r) ≤ cond m (min (on r s (t .lo)) (on r s (t .hi))) 0)
+        go true true e a b = inl (omega (arith, on-rises (t .lo) (t .hi) e h, on-rises (t .hi) (t′ .lo) e gap, on-rises (t′ .lo) (t′ .hi) e h′))
+        go true false e a b = inr (omega (arith, on-falls (t .lo) (t .hi) e h, on-falls (t .hi) (t′ .lo) e gap, on-falls (t′ .lo) (t′ .hi) e h′))
+        go false u e a b = absurd (not-both (leg r s .p) a b)
+
+-- ---- boxes and voxels
+
+clash : (a b c : ℕ) → a < b → b ≤ c → a ≡ c → ⊥
+clash a b c h k e = omega arith
+
+held-on : (r : Ray) (b : Side → Slab) → holds r b ≡ true → (s : Side) → held (leg r s) (b s) ≡ true
+held-on r b h X = and-left (held (leg r X) (b X)) _ h
+held-on r b h Y = and-left (held (leg r Y) (b Y)) _ (and-right (held (leg r X) (b X)) _ h)
+held-on r b h Z = and-right (held (leg r Y) (b Y)) _ (and-right (held (leg r X) (b X)) _ h)
+
+module _ (r : Ray) (b : Side → Slab) where
+  stop-side : (s : Side) → stop r b ≤ leave r s (b s)
+  stop-side X = rw (stop-sides r b) (min-le-left (leave r X (b X)) _)
+  stop-side Y = rw (stop-sides r b) (le-trans (min-le-right (leave r X (b X)) _) (min-le-left (leave r Y (b Y)) _))
+  stop-side Z = rw (stop-sides r b) (le-trans (min-le-right (leave r X (b X)) _) (min-le-right (leave r Y (b Y)) _))
+
+  begin-side : (s : Side) → enter r s (b s) ≤ begin r b
+  begin-side X = rw (begin-sides r b) (le-max-left (enter r X (b X)) _)
+  begin-side Y = rw (begin-sides r b) (le-trans (le-max-left (enter r Y (b Y)) _) (le-max-right (enter r X (b X)) _))
+  begin-side Z = rw (begin-sides r b) (le-trans (le-max-right (enter r Y (b Y)) _) (le-max-right (enter r X (b X)) _))
+
+module _ (v : Volume) (rise : Rise v) (r : Ray) where
+  -- m below w on a side
+  below-side : (m w : ℕ) → w < count v → Met r (voxel v m) → Met r (voxel v w) → (s : Side) → place v m s < place v w s
+      → (stop r (voxel v m) ≤ start r (voxel v w)) ⊎ (stop r (voxel v w) ≤ start r (voxel v m))
+  below-side m w hw mm mw s h =
+      let i : place v w s < v s .n = place-below v w hw s in
+      ⊎-elim
+      (λ l. inl (le-trans (stop-side r (voxel v m) s) (le-trans l (rw (mw .begins) at (begin-side r (voxel v w) s)))))
+      (λ l. inr (le-trans (stop-side r (voxel v w) s) (le-trans l (rw (mm .begins) at (begin-side r (voxel v m) s)))))
+      (apart-side r s (voxel v m s) (voxel v w s)
+      (rise-to v rise s (place v m s) (place v m s + 1) (omega arith) (omega arith))
+      (rise-to v rise s (place v m s + 1) (place v w s) (omega arith) (omega arith))
+      (rise-to v rise s (place v w s) (place v w s + 1) (omega arith) (omega arith))
+      (held-on r (voxel v m) (mm .held) s)
+      (held-on r (voxel v w) (mw .held) s))
+
+  module _ (m w : ℕ) (hm : m < count v) (hw : w < count v) (pm : 0 < partOf v r m) (pw : 0 < partOf v r w) where
+    met-m : Met r (voxel v m)
+    met-m = met r (voxel v m) (rw (part-voxel v r m) at pm)
+
+    met-w : Met r (voxel v w)
+    met-w = met r (voxel v w) (rw (part-voxel v r w) at pw)
+
+    side-apart : (s : Side) → (place v m s ≡ place v w s → ⊥) → (stop r (voxel v m) ≤ start r (voxel v w)) ⊎ (stop r (voxel v w) ≤ start r (voxel v m))
+    side-apart s h = elim (decLt (place v m s) (place v w s)) [
+      | yes l ↦ below-side m w hw met-m met-w s l
+      | no l ↦ ⊎-elim (λ a. inr a) (λ a. inl a) (below-side w m hm met-w met-m s (omega arith))
+    ]
+
+    -- two voxels with a part: one follows the other
+    pub voxel-apart : (m ≡ w → ⊥) → (stop r (voxel v m) ≤ start r (voxel v w)) ⊎ (stop r (voxel v w) ≤ start r (voxel v m))
+    voxel-apart h = elim (ℕ-discrete (place v m X) (place v w X)) [
+      | no k ↦ side-apart X k
+      | yes x ↦ elim (ℕ-discrete (place v m Y) (place v w Y)) [
+        | no k ↦ side-apart Y k
+        | yes y ↦ elim (ℕ-discrete (place v m Z) (place v w Z)) [ no k ↦ side-apart Z k | yes z ↦ absurd (h (place-same v m w (same x y z))) ]
+      ]
+    ]
+      where
+        same : place v m X ≡ place v w X → place v m Y ≡ place v w Y → place v m Z ≡ place v w Z → (s : Side) → place v m s ≡ place v w s
+        same x y z X = x
+        same x y z Y = y
+        same x y z Z = z
+
+    -- the one that starts first is left first
+    pub follows : start r (voxel v m) < start r (voxel v w) → stop r (voxel v m) ≤ start r (voxel v w)
+    follows h = ⊎-elim (λ l. l) (λ l. absurd (lt-irrefl _ (lt-of-lt-of-le h (le-trans (le-of-lt (met-w .some)) l)))) (voxel-apart (λ e. lt-irrefl _ (subst (λ (x : ℕ). start r (voxel v m) < x) (sym (ap (starts v r) e)) h)))
+
+  pub starts-apart : Apart (starts v r) (partOf v r) (count v)
+  starts-apart m w hm hw pm pw e = elim (ℕ-discrete m w) [
+    | yes k ↦ k
+    | no k ↦ absurd (⊎-elim
+        (λ l. clash (starts v r m) (stop r (voxel v m)) (starts v r w) (met-m m w hm hw pm pw .some) l e)
+        (λ l. clash (starts v r w) (stop r (voxel v w)) (starts v r m) (met-w m w hm hw pm pw .some) l (sym e))
+        (voxel-apart m w hm hw pm pw k))
+  ]

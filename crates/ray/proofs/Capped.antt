@@ -1,0 +1,163 @@
+-- Start and stop of a box, capped at D, told side by side; and what they become for a ray whose places go through a
+-- function that rises or falls. Assumes nothing.
+use Prim.Native.Nat.{ℕ, _-_, _*_, _≤_, _<_, min, max}
+use mathlib.Core.Path.{_≡_, refl, sym, ap, _∙_}
+use mathlib.Core.Bool.{Bool, true, false, cond}
+use native.Mathlib.Nat.{mul-assoc, mul-comm, mul-left-comm, one-mul, mul-pos, min-zero, min-le-left}
+use native.Mathlib.Omega.{arith}
+use lib.IntN.{ℤ}
+use Rattle.axis.specs.Leg.{moving, factor, run, Slab, held, enters, leaves}
+use Rattle.ray.specs.declared.Ray.{Ray}
+use Rattle.ray.specs.Length.{Side, X, Y, Z, leg, dOf, rest, Volume, voxel, holds, start, stop, partOf}
+use Rattle.ray.proofs.Through.{Rises, max-rises, min-rises, max-rises-3, min-rises-3, min-cap-rises, times-rises}
+use Rattle.ray.proofs.Way.{passed, factor-pos}
+
+-- α times D of the place c on a side, at most D
+unfoldable pub on : Ray → Side → ℤ → ℕ
+on r s c = min (dOf r) (run (leg r s) c * rest r s)
+
+unfoldable pub enter : Ray → Side → Slab → ℕ
+enter r s t = cond (moving (leg r s)) (min (on r s (t .lo)) (on r s (t .hi))) 0
+
+unfoldable pub leave : Ray → Side → Slab → ℕ
+leave r s t = cond (moving (leg r s)) (max (on r s (t .lo)) (on r s (t .hi))) (dOf r)
+
+abbrev pub begin : Ray → (Side → Slab) → ℕ
+begin r b = min (dOf r) (start r b)
+
+-- a voxel's part, of any box
+unfoldable pub part : Ray → (Side → Slab) → ℕ
+part r b = cond (holds r b) (stop r b - start r b) 0
+
+pub part-voxel : (v : Volume) (r : Ray) (m : ℕ) → partOf v r m ≡ part r (voxel v m)
+unfolding partOf part
+part-voxel v r m = refl
+
+pub d-side : (r : Ray) (s : Side) → dOf r ≡ factor (leg r s) * rest r s
+d-side r X = refl
+d-side r Y = mul-left-comm (factor (leg r X)) (factor (leg r Y)) (factor (leg r Z))
+d-side r Z = simp (mul-assoc, mul-comm)
+
+pub rest-pos : (r : Ray) (s : Side) → 0 < rest r s
+rest-pos r X = mul-pos (factor-pos (leg r Y)) (factor-pos (leg r Z))
+rest-pos r Y = mul-pos (factor-pos (leg r X)) (factor-pos (leg r Z))
+rest-pos r Z = mul-pos (factor-pos (leg r X)) (factor-pos (leg r Y))
+
+pub d-pos : (r : Ray) → 0 < dOf r
+d-pos r = mul-pos (factor-pos (leg r X)) (rest-pos r X)
+
+cap-in : (t : Bool) (d e x y : ℕ) → min d (cond t (min x y * e) 0) ≡ cond t (min (min d (x * e)) (min d (y * e))) 0
+cap-in true d e x y = sym (min-rises (λ z. min d (z * e)) (λ a b l. min-cap-rises d (a * e) (b * e) (times-rises e a b l)) x y)
+cap-in false d e x y = min-zero d
+
+cap-out : (t : Bool) (d e x y : ℕ) → (t ≡ false → d ≡ e) → min d (cond t (max x y * e) e) ≡ cond t (max (min d (x * e)) (min d (y * e))) d
+cap-out true d e x y h = sym (max-rises (λ z. min d (z * e)) (λ a b l. min-cap-rises d (a * e) (b * e) (times-rises e a b l)) x y)
+cap-out false d e x y h = omega (arith, h refl)
+
+less : (d x y : ℕ) → x ≤ d → x - y ≡ x - min d y
+less d x y h = omega arith
+
+ahead : (d x y : ℕ) → x ≤ d → 0 < x - y → (y < x) × (min d y ≡ y)
+ahead d x y h l = (omega arith, omega arith)
+
+module _ (r : Ray) where
+  pub on-passed : (s : Side) (c : ℤ) → on r s c ≡ passed (leg r s) c * rest r s
+  unfolding on
+  on-passed s c = ap (λ (d : ℕ). min d (run (leg r s) c * rest r s)) (d-side r s) ∙ min-rises (λ x. x * rest r s) (times-rises (rest r s)) (factor (leg r s)) (run (leg r s) c)
+
+  still-rest : (s : Side) → moving (leg r s) ≡ false → dOf r ≡ rest r s
+  still-rest s h = d-side r s ∙ rw h (one-mul (rest r s))
+
+  pub stop-cap : (b : Side → Slab) → stop r b ≤ dOf r
+  stop-cap b = min-le-left (dOf r) _
+
+  cap-enter : (s : Side) (t : Slab) → min (dOf r) (enters (rest r s) (leg r s) t) ≡ enter r s t
+  unfolding enter on
+  cap-enter s t = cap-in (moving (leg r s)) (dOf r) (rest r s) (run (leg r s) (t .lo)) (run (leg r s) (t .hi))
+
+  cap-leave : (s : Side) (t : Slab) → min (dOf r) (leaves (rest r s) (leg r s) t) ≡ leave r s t
+  unfolding leave on
+  cap-leave s t = cap-out (moving (leg r s)) (dOf r) (rest r s) (run (leg r s) (t .lo)) (run (leg r s) (t .hi)) (still-rest s)
+
+  pub leave-cap : (s : Side) (t : Slab) → leave r s t ≤ dOf r
+  leave-cap s t = rw (← cap-leave s t) (min-le-left (dOf r) (leaves (rest r s) (leg r s) t))
+
+  pub begin-sides : (b : Side → Slab) → begin r b ≡ max (enter r X (b X)) (max (enter r Y (b Y)) (enter r Z (b Z)))
+  begin-sides b =
+      sym (max-rises-3 (min (dOf r)) (min-cap-rises (dOf r)) (enters (rest r X) (leg r X) (b X)) (enters (rest r Y) (leg r Y) (b Y)) (enters (rest r Z) (leg r Z) (b Z)))
+      ∙ rw (cap-enter X (b X), cap-enter Y (b Y), cap-enter Z (b Z))
+
+  pub stop-sides : (b : Side → Slab) → stop r b ≡ min (leave r X (b X)) (min (leave r Y (b Y)) (leave r Z (b Z)))
+  stop-sides b =
+      sym (min-rises-3 (min (dOf r)) (min-cap-rises (dOf r)) (leaves (rest r X) (leg r X) (b X)) (leaves (rest r Y) (leg r Y) (b Y)) (leaves (rest r Z) (leg r Z) (b Z)))
+      ∙ rw (cap-leave X (b X), cap-leave Y (b Y), cap-leave Z (b Z))
+
+  pub part-held : (b : Side → Slab) → holds r b ≡ true → part r b ≡ stop r b - begin r b
+  unfolding part
+  part-held b h = rw h (less (dOf r) (stop r b) (start r b) (stop-cap b))
+
+  pub part-not-held : (b : Side → Slab) → holds r b ≡ false → part r b ≡ 0
+  unfolding part
+  part-not-held b h = rw h
+
+  -- a box that the ray meets
+  pub record Met (b : Side → Slab) : Type 0 where
+    pub held : holds r b ≡ true
+    pub some : start r b < stop r b
+    pub begins : begin r b ≡ start r b
+
+  pub met : (b : Side → Slab) → 0 < part r b → Met b
+  unfolding part
+  met b h = go (holds r b) refl h
+    where
+      go : (m : Bool) → holds r b ≡ m → 0 < cond m (stop r b - start r b) 0 → Met b
+      go true e l = let f = ahead (dOf r) (stop r b) (start r b) (stop-cap b) l in record { held = e; some = f .0; begins = f .1 }
+      go false e l = absurd (omega arith)
+
+-- a ray r′ whose places, through g, are those of r through h
+module _
+    (r r′ : Ray)
+    (moved : (s : Side) → moving (leg r′ s) ≡ moving (leg r s))
+    (g h : ℕ → ℕ)
+    (g-rises : Rises g)
+    (h-rises : Rises h)
+    (none : g 0 ≡ h 0)
+    (all : g (dOf r′) ≡ h (dOf r))
+    (each : (s : Side) (c : ℤ) → moving (leg r s) ≡ true → g (on r′ s c) ≡ h (on r s c)) where
+  enter-as : (s : Side) (t : Slab) → g (enter r′ s t) ≡ h (enter r s t)
+  unfolding enter
+  enter-as s t = rw (moved s) (go (moving (leg r s)) refl)
+    where
+      go : (m : Bool) → moving (leg r s) ≡ m → g (cond m (min (on r′ s (t .lo)) (on r′ s (t .hi))) 0) ≡ h (cond m (min (on r s (t .lo)) (on r s (t .hi))) 0)
+      go true e =
+          sym (min-rises g g-rises (on r′ s (t .lo)) (on r′ s (t .hi)))
+          ∙ rw (each s (t .lo) e, each s (t .hi) e)
+          (min-rises h h-rises (on r s (t .lo)) (on r s (t .hi)))
+      go false e = none
+
+  leave-as : (s : Side) (t : Slab) → g (leave r′ s t) ≡ h (leave r s t)
+  unfolding leave
+  leave-as s t = rw (moved s) (go (moving (leg r s)) refl)
+    where
+      go : (m : Bool) → moving (leg r s) ≡ m → g (cond m (max (on r′ s (t .lo)) (on r′ s (t .hi))) (dOf r′)) ≡ h (cond m (max (on r s (t .lo)) (on r s (t .hi))) (dOf r))
+      go true e =
+          sym (max-rises g g-rises (on r′ s (t .lo)) (on r′ s (t .hi)))
+          ∙ rw (each s (t .lo) e, each s (t .hi) e)
+          (max-rises h h-rises (on r s (t .lo)) (on r s (t .hi)))
+      go false e = all
+
+  pub begin-as : (b : Side → Slab) → g (begin r′ b) ≡ h (begin r b)
+  begin-as b =
+      ap g (begin-sides r′ b)
+      ∙ sym (max-rises-3 g g-rises (enter r′ X (b X)) (enter r′ Y (b Y)) (enter r′ Z (b Z)))
+      ∙ rw (enter-as X (b X), enter-as Y (b Y), enter-as Z (b Z))
+      (max-rises-3 h h-rises (enter r X (b X)) (enter r Y (b Y)) (enter r Z (b Z)))
+      ∙ sym (ap h (begin-sides r b))
+
+  pub stop-as : (b : Side → Slab) → g (stop r′ b) ≡ h (stop r b)
+  stop-as b =
+      ap g (stop-sides r′ b)
+      ∙ sym (min-rises-3 g g-rises (leave r′ X (b X)) (leave r′ Y (b Y)) (leave r′ Z (b Z)))
+      ∙ rw (leave-as X (b X), leave-as Y (b Y), leave-as Z (b Z))
+      (min-rises-3 h h-rises (leave r X (b X)) (leave r Y (b Y)) (leave r Z (b Z)))
+      ∙ sym (ap h (stop-sides r b))

@@ -1,0 +1,119 @@
+-- Demand 3, a ray cut at a point of whole coordinates: in each voxel and in the sum, its share is its pieces' shares, each weighted
+-- by the piece's length over the ray's. Fractions stand as whole numbers, multiplied across. Assumes nothing.
+use Prim.Native.Nat.{ℕ, _+_, _*_}
+use mathlib.Core.Path.{_≡_, sym, ap, ap₂, _∙_}
+use mathlib.Core.Bool.{true}
+use mathlib.Core.List.{List}
+use native.Mathlib.Nat.{mul-right-comm, mul-assoc, mul-comm, mul-left-comm, mul-add, add-mul, eq-of-mul-eq-mul-left}
+use native.Mathlib.Omega.{arith}
+use lib.IntN.{natAbs, _-ℤ_}
+use lib.ListN.{getD}
+use Rattle.axis.specs.Leg.{moving, factor, Slab}
+use Rattle.ray.specs.declared.End.{End}
+use Rattle.ray.specs.declared.Ray.{Ray}
+use Rattle.ray.specs.Length.{Side, leg, dOf, rest, Volume, count, voxel, partOf, total, sumOf}
+use Rattle.ray.proofs.Total.{total-same, total-add, total-times}
+use Rattle.ray.proofs.Capped.{part, part-voxel, d-side}
+use Rattle.ray.proofs.CutBox.{Between, near, far, upTo, onFrom, factors, share, moving-near, moving-far, parts}
+
+-- the difference of a ray's end coordinates, its length on that axis
+abbrev pub difference : Ray → Side → ℕ
+difference r s = natAbs (leg r s .q -ℤ leg r s .p)
+
+-- The mean of the pieces, weighted by their lengths on an axis s: x/D = PM/PQ · x/D of P to M + MQ/PQ · x/D of M to Q, where x is a
+-- number that each ray has, as its part in a voxel.
+abbrev pub Mean : Ray → End → Side → (Ray → ℕ) → Type 0
+Mean r m s x =
+    x r * difference r s * (dOf (near r m) * dOf (far r m))
+    ≡ (difference (near r m) s * x (near r m) * dOf (far r m) + difference (far r m) s * x (far r m) * dOf (near r m)) * dOf r
+
+-- the same, with what x is multiplied by put together
+abbrev Spread : Ray → End → Side → (Ray → ℕ) → Type 0
+Spread r m s x =
+    difference r s * (dOf (near r m) * dOf (far r m)) * x r
+    ≡ difference (near r m) s * dOf (far r m) * dOf r * x (near r m) + difference (far r m) s * dOf (near r m) * dOf r * x (far r m)
+
+moving-factor : (r : Ray) (s : Side) → moving (leg r s) ≡ true → factor (leg r s) ≡ difference r s
+moving-factor r s h = rw h
+
+cross : (n d a f a′ f′ : ℕ) → d * a ≡ n * f → d * a′ ≡ n * f′ → d * (a * f′) ≡ d * (a′ * f)
+cross n d a f a′ f′ h k =
+    sym (mul-assoc d a f′) ∙ ap (λ (x : ℕ). x * f′) h ∙ mul-right-comm n f f′ ∙ ap (λ (x : ℕ). x * f) (sym k) ∙ mul-assoc d a′ f
+
+weights : (f q dn df a b x y z : ℕ) → x * (dn * df) ≡ y * (a * q) * df + z * (b * q) * dn → f * (dn * df) * x ≡ a * df * (f * q) * y + b * dn * (f * q) * z
+weights f q dn df a b x y z h =
+    mul-assoc f (dn * df) x ∙ ap (λ (t : ℕ). f * t) (mul-comm (dn * df) x ∙ h) ∙ simp (mul-add, mul-assoc, mul-comm, mul-left-comm)
+
+shown : (f dn df a b d x y z : ℕ) → f * (dn * df) * x ≡ a * df * d * y + b * dn * d * z → x * f * (dn * df) ≡ (a * y * df + b * z * dn) * d
+shown f dn df a b d x y z h =
+    mul-assoc x f (dn * df) ∙ mul-comm x (f * (dn * df)) ∙ h ∙ simp (mul-add, mul-assoc, mul-comm, mul-left-comm)
+
+mean : (r : Ray) (m : End) (s : Side) (x : Ray → ℕ) → Spread r m s x → Mean r m s x
+mean r m s x =
+    shown (difference r s) (dOf (near r m)) (dOf (far r m)) (difference (near r m) s) (difference (far r m) s) (dOf r) (x r) (x (near r m)) (x (far r m))
+
+left : (a b f a′ b′ f′ : ℕ) → a + b ≡ f → a′ + b′ ≡ f′ → a * f′ ≡ a′ * f → b * f′ ≡ b′ * f
+left a b f a′ b′ f′ h k e =
+    omega (arith, add-mul a b f′, add-mul a′ b′ f, ap (λ (x : ℕ). x * f′) h, ap (λ (x : ℕ). x * f) k, mul-comm f f′)
+
+dense : (k a b x y z g : ℕ) → k * x ≡ a * y + b * z → k * (x * g) ≡ a * (y * g) + b * (z * g)
+dense k a b x y z g h = sym (mul-assoc k x g) ∙ ap (λ (t : ℕ). t * g) h ∙ add-mul (a * y) (b * z) g ∙ ap₂ _+_ (mul-assoc a y g) (mul-assoc b z g)
+
+linear : (k a b : ℕ) (f g h : ℕ → ℕ) → ((m : ℕ) → k * f m ≡ a * g m + b * h m) → (n : ℕ) → k * total f n ≡ a * total g n + b * total h n
+linear k a b f g h e n =
+    sym (total-times f k n)
+    ∙ total-same (λ m. k * f m) (λ m. a * g m + b * h m) n (λ m i. e m)
+    ∙ total-add (λ m. a * g m) (λ m. b * h m) n
+    ∙ ap₂ _+_ (total-times g a n) (total-times h b n)
+
+module _ (r : Ray) (m : End) (between : Between r m) where
+  module _ (s : Side) (moves : moving (leg r s) ≡ true) where
+    near-difference : factor (leg (near r m) s) ≡ difference (near r m) s
+    near-difference = moving-factor (near r m) s (moving-near r m between s ∙ moves)
+
+    far-difference : factor (leg (far r m) s) ≡ difference (far r m) s
+    far-difference = moving-factor (far r m) s (moving-far r m between s ∙ moves)
+
+    -- PM and MQ make up PQ
+    pub differences : difference (near r m) s + difference (far r m) s ≡ difference r s
+    differences = ap₂ _+_ (sym near-difference) (sym far-difference) ∙ factors r m between s moves ∙ moving-factor r s moves
+
+    -- α = n/d of the differences
+    pub α-difference : between .d * difference (near r m) s ≡ between .n * difference r s
+    α-difference = ap (λ (x : ℕ). between .d * x) (sym near-difference) ∙ share r m between s moves ∙ ap (λ (x : ℕ). between .n * x) (moving-factor r s moves)
+
+    part-spread : (b : Side → Slab) → Spread r m s (λ t. part t b)
+    unfolding upTo onFrom
+    part-spread b =
+        rw (← near-difference, ← far-difference, ← moving-factor r s moves, d-side r s)
+        (weights (factor (leg r s)) (rest r s) (dOf (near r m)) (dOf (far r m)) (factor (leg (near r m) s)) (factor (leg (far r m) s)) (part r b) (part (near r m) b) (part (far r m) b) (parts r m between s moves b))
+
+    module _ (v : Volume) where
+      voxel-spread : (w : ℕ) → Spread r m s (λ t. partOf v t w)
+      voxel-spread w = rw (part-voxel v r w, part-voxel v (near r m) w, part-voxel v (far r m) w) (part-spread (voxel v w))
+
+      -- a voxel's part over D
+      pub voxel-cut : (w : ℕ) → Mean r m s (λ t. partOf v t w)
+      voxel-cut w = mean r m s (λ t. partOf v t w) (voxel-spread w)
+
+      -- the weighted sum over D
+      pub sum-cut : (densities : List ℕ) → Mean r m s (λ t. sumOf v t densities)
+      unfolding sumOf
+      sum-cut densities =
+          mean r m s (λ t. sumOf v t densities)
+          (linear (difference r s * (dOf (near r m) * dOf (far r m))) (difference (near r m) s * dOf (far r m) * dOf r) (difference (far r m) s * dOf (near r m) * dOf r)
+          (λ w. partOf v r w * getD densities w 0)
+          (λ w. partOf v (near r m) w * getD densities w 0)
+          (λ w. partOf v (far r m) w * getD densities w 0)
+          (λ w. dense (difference r s * (dOf (near r m) * dOf (far r m))) (difference (near r m) s * dOf (far r m) * dOf r) (difference (far r m) s * dOf (near r m) * dOf r) (partOf v r w) (partOf v (near r m) w) (partOf v (far r m) w) (getD densities w 0) (voxel-spread w))
+          (count v))
+
+  -- the weights are the same whichever moving axis they are read off
+  pub same-quotient : (s t : Side) → moving (leg r s) ≡ true → moving (leg r t) ≡ true → difference (near r m) s * difference r t ≡ difference (near r m) t * difference r s
+  same-quotient s t hs ht =
+      eq-of-mul-eq-mul-left (between .d) (omega (arith, between .less)) _ _
+      (cross (between .n) (between .d) (difference (near r m) s) (difference r s) (difference (near r m) t) (difference r t) (α-difference s hs) (α-difference t ht))
+
+  pub same-quotient-far : (s t : Side) → moving (leg r s) ≡ true → moving (leg r t) ≡ true → difference (far r m) s * difference r t ≡ difference (far r m) t * difference r s
+  same-quotient-far s t hs ht =
+      left (difference (near r m) s) (difference (far r m) s) (difference r s) (difference (near r m) t) (difference (far r m) t) (difference r t) (differences s hs) (differences t ht) (same-quotient s t hs ht)

@@ -1,0 +1,102 @@
+-- Document 01: "On a hit, the number of entries is one more than the number of different α among those planes", the planes that
+-- are crossed. That number, counted over the ticks below D: a tick is an α times D. Assumes nothing.
+use Prim.Native.Nat.{ℕ, zero, suc, _+_, _*_, _≤_, _<_}
+use mathlib.Core.Path.{_≡_, refl, ap, _∙_}
+use mathlib.Core.Bool.{Bool, true, false, _&&_, _||_, cond}
+use native.Mathlib.Omega.{arith}
+use native.Mathlib.Decide.{decLt}
+use lib.IntN.{pos}
+use lib.Dec.{ltb, eqb}
+use borrow.Author.Tests.{lt-ltb, ltb-true, eq-eqb, ne-eqb}
+use Rattle.axis.specs.Leg.{moving, run}
+use Rattle.axis.proofs.Flag.{and-left, and-right}
+use Rattle.ray.specs.declared.Ray.{Ray}
+use Rattle.ray.specs.Length.{Side, X, Y, Z, leg, dOf, rest, Volume, volume, array, start, stop, total, crosses}
+use Rattle.ray.proofs.Bench.{grid, ray}
+
+-- α of a plane, times D
+abbrev pub alphaOf : Volume → Ray → Side → ℕ → ℕ
+alphaOf v r s i = run (leg r s) (v s .at i) * rest r s
+
+-- one of the numbers below n passes
+unfoldable pub some : (ℕ → Bool) → ℕ → Bool
+some test zero = false
+some test (suc n) = some test n || test n
+
+-- a plane that is crossed has its α, times D, at x
+abbrev pub crossesAt : Volume → Ray → ℕ → Side → ℕ → Bool
+crossesAt v r x s i = crosses v r s i && eqb (alphaOf v r s i) x
+
+unfoldable pub crossedAt : Volume → Ray → ℕ → Bool
+crossedAt v r x = let on : Side → Bool = λ s. some (crossesAt v r x s) (v s .n + 1) in on X || (on Y || on Z)
+
+-- "the number of different α among those planes"
+unfoldable pub differentOf : Volume → Ray → ℕ
+differentOf v r = total (λ x. cond (crossedAt v r x) 1 0) (dOf r)
+
+-- three planes of ray C at three α, two of ray D at one
+pub bench : (differentOf (volume grid) (ray (pos 0) (pos 0) (pos 5) (pos 30) (pos 20) (pos 5)) ≡ 3)
+    × (differentOf (volume grid) (ray (pos 0) (pos 0) (pos 5) (pos 20) (pos 20) (pos 5)) ≡ 1)
+unfolding total crosses some crossedAt differentOf
+bench = (refl, refl)
+
+-- ---- what the tests decide
+or-yes : (a b : Bool) → b ≡ true → (a || b) ≡ true
+or-yes true b e = refl
+or-yes false b e = e
+
+one-of : (b : Side → Bool) (s : Side) → b s ≡ true → (b X || (b Y || b Z)) ≡ true
+one-of b X h = rw h refl
+one-of b Y h = or-yes (b X) (b Y || b Z) (rw h refl)
+one-of b Z h = or-yes (b X) (b Y || b Z) (or-yes (b Y) (b Z) h)
+
+module _ (test : ℕ → Bool) where
+  some-yes : (n i : ℕ) → i < n → test i ≡ true → some test n ≡ true
+  unfolding some
+  some-yes zero i h e = absurd (omega arith)
+  some-yes (suc n) i h e = elim (decLt i n) [
+    | yes k ↦ rw (some-yes n i k e) refl
+    | no k ↦ let same : n ≡ i = omega arith in or-yes (some test n) (test n) (ap test same ∙ e)
+  ]
+
+  some-no : (n : ℕ) → ((i : ℕ) → i < n → test i ≡ false) → some test n ≡ false
+  unfolding some
+  some-no zero h = refl
+  some-no (suc n) h = rw (some-no n (λ i k. h i (omega arith)), h n (omega arith)) refl
+
+-- "with α strictly between αmin and αmax"
+module _ (v : Volume) (r : Ray) (s : Side) (i : ℕ) where
+  pub crosses-means : crosses v r s i ≡ true → (moving (leg r s) ≡ true) × (start r (array v) < alphaOf v r s i) × (alphaOf v r s i < stop r (array v))
+  unfolding crosses
+  crosses-means h =
+      let between = and-right (moving (leg r s)) _ h in (
+        and-left (moving (leg r s)) _ h,
+        ltb-true _ _ (and-left (ltb (start r (array v)) (alphaOf v r s i)) _ between),
+        ltb-true _ _ (and-right (ltb (start r (array v)) (alphaOf v r s i)) _ between),
+      )
+
+  pub means-crosses : moving (leg r s) ≡ true → start r (array v) < alphaOf v r s i → alphaOf v r s i < stop r (array v) → crosses v r s i ≡ true
+  unfolding crosses
+  means-crosses m a b = rw (m, lt-ltb (start r (array v)) (alphaOf v r s i) a, lt-ltb (alphaOf v r s i) (stop r (array v)) b) refl
+
+module _ (v : Volume) (r : Ray) (x : ℕ) where
+  pub crossed-yes : (s : Side) (i : ℕ) → i < v s .n + 1 → crosses v r s i ≡ true → alphaOf v r s i ≡ x → crossedAt v r x ≡ true
+  unfolding crossedAt
+  crossed-yes s i h c e = one-of (λ o. some (crossesAt v r x o) (v o .n + 1)) s (some-yes (crossesAt v r x s) (v s .n + 1) i h (rw (c, eq-eqb (alphaOf v r s i) x e) refl))
+
+  pub crossed-no : ((s : Side) (i : ℕ) → i < v s .n + 1 → crosses v r s i ≡ true → alphaOf v r s i ≡ x → ⊥) → crossedAt v r x ≡ false
+  unfolding crossedAt
+  crossed-no none =
+      let on : (s : Side) → some (crossesAt v r x s) (v s .n + 1) ≡ false = λ s.
+      some-no (crossesAt v r x s) (v s .n + 1) (λ i h. neither (crosses v r s i) (alphaOf v r s i) refl (none s i h)) in
+      rw (on X, on Y, on Z) refl
+    where
+      neither : (c : Bool) (a : ℕ) {c₀ : Bool} → c₀ ≡ c → (c₀ ≡ true → a ≡ x → ⊥) → (c && eqb a x) ≡ false
+      neither false a e h = refl
+      neither true a e h = ne-eqb a x (h e)
+
+  pub crossed-since : x ≤ start r (array v) → crossedAt v r x ≡ false
+  crossed-since h = crossed-no (λ s i k c e. omega (arith, crosses-means v r s i c .1))
+
+  pub crossed-until : stop r (array v) ≤ x → crossedAt v r x ≡ false
+  crossed-until h = crossed-no (λ s i k c e. omega (arith, crosses-means v r s i c .2))

@@ -1,0 +1,208 @@
+-- Demand 3, a ray turned round: in every box it has the same length, and enters where the ray leaves. Assumes nothing.
+use Prim.Native.Nat.{ℕ, zero, suc, _+_, _-_, _*_, _≤_, _<_, min, max}
+use mathlib.Core.Path.{_≡_, refl, sym, ap, _∙_}
+use mathlib.Core.Bool.{Bool, true, false, _&&_, _||_, cond}
+use mathlib.Core.List.{List}
+use lib.ListN.{getD}
+use native.Mathlib.Nat.{sub-self, sub-zero}
+use native.Mathlib.Omega.{arith}
+use lib.IntN.{ℤ, pos, negsuc, negℤ, natAbs, _-ℤ_}
+use lib.Dec.{ltb}
+use lib.Signed.{leZ, ltZ}
+use Rattle.axis.specs.Leg.{Leg, moving, factor, run, Slab, held}
+use Rattle.axis.proofs.Flag.{off-or-on}
+use Rattle.axis.proofs.Shift.{shift, Low}
+use Rattle.ray.specs.declared.Ray.{Ray}
+use Rattle.ray.specs.Length.{Side, X, Y, Z, leg, dOf, rest, squaredOf, Volume, count, array, voxel, holds, start, stop, partOf, misses, spanOf, total, sumOf, crosses, crossedOf}
+use Rattle.ray.proofs.Total.{total-same}
+use Rattle.ray.proofs.Through.{max-falls, min-falls, max-falls-3, min-falls-3, sub-times}
+use Rattle.ray.proofs.Down.{down-falls, gap-down, leb-down, later, crossing-down}
+use Rattle.ray.proofs.Told.{neg-diff}
+use Rattle.ray.proofs.Way.{Way, up, down, still, Goes, moving-by, factor-by, run-by, passed, told, still-same}
+use Rattle.ray.proofs.Capped.{on, on-passed, d-side, enter, leave, begin, begin-sides, stop-sides, stop-cap, part, part-voxel, Met, met}
+
+-- the leg from q to p
+abbrev back : Leg → Leg
+back l = record { p = l .q; q = l .p }
+
+pub or-comm : (a b : Bool) → (a || b) ≡ (b || a)
+or-comm true true = refl
+or-comm true false = refl
+or-comm false true = refl
+or-comm false false = refl
+
+moving-back : (l : Leg) → moving (back l) ≡ moving l
+moving-back l = or-comm (ltZ (l .q) (l .p)) (ltZ (l .p) (l .q))
+
+module _ (k : ℕ) (l : Leg) (hp : Low k (l .p)) (hq : Low k (l .q)) where
+  factor-back′ : (w : Way) → Goes w (shift k (l .p)) (shift k (l .q)) → factor (back l) ≡ factor l
+  factor-back′ up g = factor-by k (back l) hq hp down g ∙ sym (factor-by k l hp hq up g)
+  factor-back′ down g = factor-by k (back l) hq hp up g ∙ sym (factor-by k l hp hq down g)
+  factor-back′ still g = factor-by k (back l) hq hp still (sym g) ∙ sym (factor-by k l hp hq still g)
+
+  passed-back′ : (c : ℤ) → Low k c → moving l ≡ true → (w : Way) → Goes w (shift k (l .p)) (shift k (l .q)) → passed (back l) c ≡ factor l - passed l c
+  passed-back′ c hc m up g =
+      omega (arith, factor-by k (back l) hq hp down g, factor-by k l hp hq up g, run-by k (back l) hq hp c hc down g, run-by k l hp hq c hc up g)
+  passed-back′ c hc m down g =
+      omega (arith, factor-by k (back l) hq hp up g, factor-by k l hp hq down g, run-by k (back l) hq hp c hc up g, run-by k l hp hq c hc down g)
+  passed-back′ c hc m still g = off-or-on (moving l) m (moving-by k l hp hq still g)
+
+factor-back : (l : Leg) → factor (back l) ≡ factor l
+factor-back l = told l (l .p) (l .p) (λ k hp hq hc hm. factor-back′ k l hp hq)
+
+passed-back : (l : Leg) (c : ℤ) → moving l ≡ true → passed (back l) c ≡ factor l - passed l c
+passed-back l c m = told l c c (λ k hp hq hc hm. passed-back′ k l hp hq c hc m)
+
+held-back : (l : Leg) (t : Slab) → held (back l) t ≡ held l t
+held-back l t = rw (moving-back l) (go (moving l) refl)
+  where
+    go : (m : Bool) → moving l ≡ m → (m || (leZ (t .lo) (l .q) && ltZ (l .q) (t .hi))) ≡ (m || (leZ (t .lo) (l .p) && ltZ (l .p) (t .hi)))
+    go true e = refl
+    go false e = ap (λ (z : ℤ). leZ (t .lo) z && ltZ z (t .hi)) (sym (still-same l e))
+
+abs-neg : (z : ℤ) → natAbs (negℤ z) ≡ natAbs z
+abs-neg (pos zero) = refl
+abs-neg (pos (suc n)) = refl
+abs-neg (negsuc n) = refl
+
+abs-back : (x y : ℤ) → natAbs (y -ℤ x) ≡ natAbs (x -ℤ y)
+abs-back x y = ap natAbs (sym (neg-diff x y)) ∙ abs-neg (x -ℤ y)
+
+-- ---- the ray from Q to P
+
+abbrev pub turned : Ray → Ray
+turned r = record { p = r .q; q = r .p }
+
+module _ (r : Ray) where
+  leg-turned : (s : Side) → leg (turned r) s ≡ back (leg r s)
+  leg-turned X = refl
+  leg-turned Y = refl
+  leg-turned Z = refl
+
+  pub moving-turned : (s : Side) → moving (leg (turned r) s) ≡ moving (leg r s)
+  moving-turned s = ap moving (leg-turned s) ∙ moving-back (leg r s)
+
+  factor-turned : (s : Side) → factor (leg (turned r) s) ≡ factor (leg r s)
+  factor-turned s = ap factor (leg-turned s) ∙ factor-back (leg r s)
+
+  pub d-turned : dOf (turned r) ≡ dOf r
+  d-turned = rw (factor-turned X, factor-turned Y, factor-turned Z)
+
+  rest-turned : (s : Side) → rest (turned r) s ≡ rest r s
+  rest-turned X = rw (factor-turned Y, factor-turned Z)
+  rest-turned Y = rw (factor-turned X, factor-turned Z)
+  rest-turned Z = rw (factor-turned X, factor-turned Y)
+
+  on-turned : (s : Side) (c : ℤ) → moving (leg r s) ≡ true → on (turned r) s c ≡ dOf r - on r s c
+  on-turned s c m =
+      on-passed (turned r) s c
+      ∙ ap (λ (l : Leg). passed l c * rest (turned r) s) (leg-turned s)
+      ∙ rw (rest-turned s, passed-back (leg r s) c m, sub-times (factor (leg r s)) (passed (leg r s) c) (rest r s), ← d-side r s, ← on-passed r s c)
+
+  pub holds-turned : (b : Side → Slab) → holds (turned r) b ≡ holds r b
+  holds-turned b = rw (held-back (leg r X) (b X), held-back (leg r Y) (b Y), held-back (leg r Z) (b Z))
+
+  enter-turned : (s : Side) (t : Slab) → enter (turned r) s t ≡ dOf r - leave r s t
+  unfolding enter leave
+  enter-turned s t = rw (moving-turned s) (go (moving (leg r s)) refl)
+    where
+      go : (m : Bool) → moving (leg r s) ≡ m → cond m (min (on (turned r) s (t .lo)) (on (turned r) s (t .hi))) 0 ≡ dOf r - cond m (max (on r s (t .lo)) (on r s (t .hi))) (dOf r)
+      go true e =
+          rw (on-turned s (t .lo) e, on-turned s (t .hi) e) (min-falls (λ x. dOf r - x) (down-falls (dOf r)) (on r s (t .lo)) (on r s (t .hi)))
+      go false e = sym (sub-self (dOf r))
+
+  leave-turned : (s : Side) (t : Slab) → leave (turned r) s t ≡ dOf r - enter r s t
+  unfolding enter leave
+  leave-turned s t = rw (moving-turned s) (go (moving (leg r s)) refl)
+    where
+      go : (m : Bool) → moving (leg r s) ≡ m → cond m (max (on (turned r) s (t .lo)) (on (turned r) s (t .hi))) (dOf (turned r)) ≡ dOf r - cond m (min (on r s (t .lo)) (on r s (t .hi))) 0
+      go true e =
+          rw (on-turned s (t .lo) e, on-turned s (t .hi) e) (max-falls (λ x. dOf r - x) (down-falls (dOf r)) (on r s (t .lo)) (on r s (t .hi)))
+      go false e = d-turned ∙ sym (sub-zero (dOf r))
+
+  -- the ray turned enters a box where the ray leaves it, told from the other end, and the other way round
+  pub begin-turned : (b : Side → Slab) → begin (turned r) b ≡ dOf r - stop r b
+  begin-turned b =
+      begin-sides (turned r) b
+      ∙ rw (enter-turned X (b X), enter-turned Y (b Y), enter-turned Z (b Z))
+      (max-falls-3 (λ x. dOf r - x) (down-falls (dOf r)) (leave r X (b X)) (leave r Y (b Y)) (leave r Z (b Z)))
+      ∙ ap (λ (x : ℕ). dOf r - x) (sym (stop-sides r b))
+
+  pub stop-turned : (b : Side → Slab) → stop (turned r) b ≡ dOf r - begin r b
+  stop-turned b =
+      stop-sides (turned r) b
+      ∙ rw (leave-turned X (b X), leave-turned Y (b Y), leave-turned Z (b Z))
+      (min-falls-3 (λ x. dOf r - x) (down-falls (dOf r)) (enter r X (b X)) (enter r Y (b Y)) (enter r Z (b Z)))
+      ∙ ap (λ (x : ℕ). dOf r - x) (sym (begin-sides r b))
+
+  -- the same, capped at the ray's own D
+  begin-down : (b : Side → Slab) → min (dOf r) (start (turned r) b) ≡ dOf r - stop r b
+  begin-down b = ap (λ (d : ℕ). min d (start (turned r) b)) (sym d-turned) ∙ begin-turned b
+
+  -- the same length in every box
+  pub part-turned : (b : Side → Slab) → part (turned r) b ≡ part r b
+  unfolding part
+  part-turned b = rw (holds-turned b, gap-down (dOf r) (start r b) (stop r b) (start (turned r) b) (stop (turned r) b) (stop-cap r b) (begin-down b) (stop-turned b))
+
+  -- of two boxes that the ray meets one after the other, the ray turned meets the second first
+  pub order-turned : (a b : Side → Slab) → 0 < part r a → 0 < part r b → stop r a ≤ start r b → start (turned r) b < start (turned r) a
+  order-turned a b ha hb h =
+      let ma : Met (turned r) a = met (turned r) a (rw (part-turned a) ha) in
+      let mb : Met (turned r) b = met (turned r) b (rw (part-turned b) hb) in
+      later (dOf r) (stop r a) (start r b) (stop r b) (start (turned r) a) (start (turned r) b)
+      (met r b hb .some)
+      h
+      (stop-cap r b)
+      (sym (ma .begins) ∙ begin-turned a)
+      (sym (mb .begins) ∙ begin-turned b)
+
+  pub squared-turned : squaredOf (turned r) ≡ squaredOf r
+  squared-turned = rw (abs-back (r .p .x) (r .q .x), abs-back (r .p .y) (r .q .y), abs-back (r .p .z) (r .q .z))
+
+module _ (v : Volume) (r : Ray) where
+  pub misses-turned : misses v (turned r) ≡ misses v r
+  unfolding misses
+  misses-turned =
+      rw (holds-turned r (array v), leb-down (dOf r) (start r (array v)) (stop r (array v)) (start (turned r) (array v)) (stop (turned r) (array v)) (stop-cap r (array v)) (begin-down r (array v)) (stop-turned r (array v)))
+
+  pub span-turned : spanOf v (turned r) ≡ spanOf v r
+  unfolding spanOf
+  span-turned =
+      rw (misses-turned, gap-down (dOf r) (start r (array v)) (stop r (array v)) (start (turned r) (array v)) (stop (turned r) (array v)) (stop-cap r (array v)) (begin-down r (array v)) (stop-turned r (array v)))
+
+  pub voxel-turned : (m : ℕ) → partOf v (turned r) m ≡ partOf v r m
+  voxel-turned m = part-voxel v (turned r) m ∙ part-turned r (voxel v m) ∙ sym (part-voxel v r m)
+
+  pub sum-turned : (densities : List ℕ) → sumOf v (turned r) densities ≡ sumOf v r densities
+  unfolding sumOf
+  sum-turned densities = total-same _ _ (count v) (λ m h. ap (λ (x : ℕ). x * getD densities m 0) (voxel-turned m))
+
+  -- a plane is crossed either way
+  pub crosses-turned : (s : Side) (i : ℕ) → crosses v (turned r) s i ≡ crosses v r s i
+  unfolding crosses on
+  crosses-turned s i = rw (moving-turned r s) (go (moving (leg r s)) refl)
+    where
+      α : Ray → ℕ
+      α t = run (leg t s) (v s .at i) * rest t s
+
+      capped : moving (leg r s) ≡ true → min (dOf r) (α (turned r)) ≡ dOf r - min (dOf r) (α r)
+      capped e = ap (λ (d : ℕ). min d (α (turned r))) (sym (d-turned r)) ∙ on-turned r s (v s .at i) e
+
+      inside : Ray → Bool
+      inside t = ltb (start t (array v)) (α t) && ltb (α t) (stop t (array v))
+
+      go : (m : Bool) → moving (leg r s) ≡ m → (m && inside (turned r)) ≡ (m && inside r)
+      go true e =
+          crossing-down (dOf r) (start r (array v)) (α r) (stop r (array v)) (start (turned r) (array v)) (α (turned r)) (stop (turned r) (array v))
+          (stop-cap r (array v))
+          (begin-down r (array v))
+          (capped e)
+          (stop-turned r (array v))
+      go false e = refl
+
+  pub crossed-turned : crossedOf v (turned r) ≡ crossedOf v r
+  unfolding crossedOf
+  crossed-turned =
+      let same : (s : Side) → total (λ i. cond (crosses v (turned r) s i) 1 0) (v s .n + 1) ≡ total (λ i. cond (crosses v r s i) 1 0) (v s .n + 1) =
+      λ s. total-same _ _ (v s .n + 1) (λ i h. ap (λ (t : Bool). cond t 1 0) (crosses-turned s i)) in
+      rw (misses-turned, same X, same Y, same Z)

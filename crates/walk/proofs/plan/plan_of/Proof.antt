@@ -1,0 +1,28 @@
+use Rattle.walk.proofs.Plans.{planned}
+use borrow.Author.Needs.{needs}
+use Rattle.walk.proofs.plan.plan_of.Statement.{statement}
+use Rattle.walk.proofs.plan.plan_of.Tie as tie
+use Rattle.walk.proofs.plan.plan_of.Reads as reads
+use Rattle.walk.proofs.plan.plan_of.Lts as lts
+use Rattle.walk.proofs.plan.crossed_of.Reads as crossed-of-reads
+use Rattle.walk.proofs.plan.strides_of.Reads as strides-of-reads
+use Rattle.walk.proofs.plan.walk_of.Reads as walk-of-reads
+
+walk-of-requires : tie.Need-walk-of-requires
+walk-of-requires c κs = search needs
+
+strides-of-requires : tie.Need-strides-of-requires
+strides-of-requires c κs = search needs
+
+crossed-of-requires : tie.Need-crossed-of-requires
+crossed-of-requires c κs = search needs
+
+returns : tie.Need-returns
+returns c =
+    let a = c .before .before .before .args in
+    let p = c .before .before .before .pre in
+    planned (a .s) (p .0) (a .f) (p .1) (p .2) (c .before .before .walk-of .result) (c .before .before .walk-of .ensures) (c .before .strides-of .result) (c .before .strides-of .ensures) _ (c .crossed-of .ensures)
+
+pub plan-of-spec : {M : Type 1} → statement M
+plan-of-spec =
+    tie.close (tie.spec walk-of-requires strides-of-requires crossed-of-requires returns)

@@ -1,0 +1,74 @@
+-- What is worked out of a scene before the walk. Definitions only. Assumes nothing.
+use Prim.Native.Nat.{ℕ, _+_, _*_, _^_, _≤_, _<_}
+use mathlib.Core.Path.{_≡_}
+use mathlib.Core.Bool.{Bool, true, _&&_, not, cond}
+use mathlib.Core.List.{map}
+use lib.IntN.{pos}
+use lib.Dec.{ltb}
+use Rattle.axis.specs.Leg.{moving, run, enters, leaves, held}
+use Rattle.ray.specs.Length.{Side, X, Y, Z, Volume, rest, dOf, array, start, stop, misses, partOf, listOf, total, crossedOf}
+use Rattle.walk.specs.declared.line.Line.{Line}
+use Rattle.walk.specs.declared.line.Scene.{Scene}
+use Rattle.walk.specs.declared.steps.Walk.{Walk}
+use Rattle.walk.specs.declared.steps.Strides.{Strides}
+use Rattle.walk.specs.declared.reach.Reach.{Reach}
+use Rattle.walk.specs.declared.plan.Frame.{Frame}
+use Rattle.walk.specs.declared.plan.Plan.{Plan}
+use Rattle.walk.specs.Scene.{legN, slabN, plane, line, volumeOf, rayOf, Within}
+use Rattle.walk.specs.Model.{leaveOf, stepOf, jumpOf, voxels, parts, entries, Forward}
+
+-- one axis against its first and last plane
+pub record Reached (a : Line) (c : ℕ) (r : Reach) : Type 0 where
+  pub from-is : r .from ≡ enters c (legN (a .p) (a .q)) (slabN (plane a 0) (plane a (a .n)))
+  pub to-is : r .to ≡ leaves c (legN (a .p) (a .q)) (slabN (plane a 0) (plane a (a .n)))
+  pub held-is : r .held ≡ held (legN (a .p) (a .q)) (slabN (plane a 0) (plane a (a .n)))
+  pub from-size : r .from ≤ 2 ^ 60
+  pub to-size : r .to ≤ 2 ^ 60
+
+-- an axis' planes with a tick strictly between two
+abbrev pub crossAt : Line → (c from to i : ℕ) → Bool
+crossAt a c from to i =
+    let t : ℕ = run (legN (a .p) (a .q)) (pos (plane a i)) * c in moving (legN (a .p) (a .q)) && (ltb from t && ltb t to)
+
+abbrev pub crossedOn : Line → (c from to : ℕ) → ℕ
+crossedOn a c from to = total (λ i. cond (crossAt a c from to i) 1 0) (a .n + 1)
+
+abbrev pub restOf : Frame → Side → ℕ
+restOf f X = f .cx
+restOf f Y = f .cy
+restOf f Z = f .cz
+
+-- D, αmin and αmax times D, and whether the ray hits
+pub record Framed (s : Scene) (f : Frame) : Type 0 where
+  pub rests : (o : Side) → restOf f o ≡ rest (rayOf s) o
+  pub d-is : f .d ≡ dOf (rayOf s)
+  pub from-is : f .from ≡ start (rayOf s) (array (volumeOf s))
+  pub to-is : f .to ≡ stop (rayOf s) (array (volumeOf s))
+  pub hit-is : f .hit ≡ not (misses (volumeOf s) (rayOf s))
+
+-- on each axis the ticks from plane to plane, and what one voxel on adds to the number: `unit` modulo 2^64
+abbrev pub unit : Volume → Side → ℕ
+unit v X = 1
+unit v Y = v X .n
+unit v Z = v Y .n * v X .n
+
+pub record Strided (s : Scene) (f : Frame) (t : Strides) : Type 0 where
+  pub ticks : (o : Side) → stepOf t o ≡ line s o .d * restOf f o
+  pub upward : (o : Side) → line s o .p < line s o .q → jumpOf t o ≡ unit (volumeOf s) o
+  pub downward : (o : Side) → line s o .q < line s o .p → jumpOf t o + unit (volumeOf s) o ≡ 2 ^ 64
+
+-- the walk's first voxel, at `at` on each axis
+pub record Begun (s : Scene) (f : Frame) (w : Walk) : Type 0 where
+  pub at : Side → ℕ
+  pub within : (o : Side) → Within (line s o) (restOf f o) (f .from) (at o)
+  pub leaves-at : (o : Side) → leaveOf w o ≡ leaves (restOf f o) (legN (line s o .p) (line s o .q)) (slabN (plane (line s o) (at o)) (plane (line s o) (at o + 1)))
+  pub leaves-size : (o : Side) → leaveOf w o ≤ 2 ^ 60
+  pub number : w .v ≡ (at Z * s .y .n + at Y) * s .x .n + at X
+  pub tick : w .t ≡ f .from
+
+-- a walk whose entries are the list with its parts
+pub record Planned (s : Scene) (to : ℕ) (p : Plan) : Type 0 where
+  pub forward : Forward (p .strides) to (p .walk)
+  pub voxels-are : voxels (entries (p .strides) to (p .walk)) ≡ listOf (volumeOf s) (rayOf s)
+  pub parts-are : parts (entries (p .strides) to (p .walk)) ≡ map (partOf (volumeOf s) (rayOf s)) (listOf (volumeOf s) (rayOf s))
+  pub crossed-is : p .crossed ≡ crossedOf (volumeOf s) (rayOf s)
