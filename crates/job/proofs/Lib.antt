@@ -12,3 +12,4 @@ pub mod Places
 pub mod Ending
 pub mod Turns
 pub mod Running
+pub mod Tracing

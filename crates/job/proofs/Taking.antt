@@ -7,13 +7,13 @@ use lib.Dec.{eqb, ltb}
 use native.Mathlib.Nat.{mul-le-mul, mul-le-mul-left, mul-le-mul-right, mul-assoc, mul-comm, mul-left-comm}
 use native.Mathlib.Decide.{decLe}
 use native.Mathlib.Omega.{arith}
-use borrow.Author.Tests.{eqb-false, ltb-false, ne-eqb}
+use borrow.Author.Tests.{ltb-false, ne-eqb}
 use Rattle.axis.specs.declared.Axis.{Axis}
 use Rattle.axis.specs.Codes.{bench, row, first, planesOut}
-use Rattle.axis.proofs.Flag.{or-left, or-right}
 use Rattle.ray.specs.declared.Grid.{Grid}
-use Rattle.ray.specs.Length.{volume, count}
+use Rattle.ray.specs.Length.{X, Y, Z, volume, count}
 use Rattle.ray.specs.Codes.{gridRows}
+use Rattle.path.proofs.Accepting.{axes-ok}
 use Rattle.job.specs.Line.{gridCode}
 
 abbrev table : Bool → Bool → Bool → ℕ
@@ -24,13 +24,6 @@ behind-table true t u rest = refl
 behind-table false true u rest = refl
 behind-table false false true rest = refl
 behind-table false false false rest = refl
-
-only-first : (s t u : Bool) → table s t u ≡ 0 → s ≡ false
-only-first true t u e = absurd (omega arith)
-only-first false t u e = refl
-
-within : (n : ℕ) → (eqb n 0 || ltb 512 n) ≡ false → (0 < n) × (n ≤ 512)
-within n h = let e = eqb-false n 0 (or-left (eqb n 0) _ h) in let l = ltb-false 512 n (or-right (eqb n 0) _ h) in (omega arith, omega arith)
 
 pub record Sides (nx ny nz : ℕ) : Type 0 where
   pub x : (0 < nx) × (nx ≤ 512)
@@ -61,14 +54,7 @@ module _ (g : Grid) where
       go (suc code) many m f = let f′ : suc code ≡ 0 = rw (ne-eqb (suc code) 0 (λ z. omega arith)) at f in absurd (omega arith)
 
   pub sides : first (gridRows bench g) ≡ 0 → Sides (g .x .n) (g .y .n) (g .z .n)
-  sides e =
-      let n : some noN ≡ false = only-first (some noN) (some noD) (some (planesOut bench)) e in
-      let yz = or-right (noN (g .x)) (noN (g .y) || noN (g .z)) n in
-      record {
-        x = within (g .x .n) (or-left (noN (g .x)) (noN (g .y) || noN (g .z)) n);
-        y = within (g .y .n) (or-left (noN (g .y)) (noN (g .z)) yz);
-        z = within (g .z .n) (or-right (noN (g .y)) (noN (g .z)) yz);
-      }
+  sides e = let ok = axes-ok bench g e in record { x = (ok X .some, ok X .few); y = (ok Y .some, ok Y .few); z = (ok Z .some, ok Z .few) }
 
 -- as many densities as ny·nz lines of nx hold
 pub all-lines : (nx ny nz : ℕ) → ny * nz * nx ≡ nx * ny * nz

@@ -22,7 +22,7 @@ abbrev pub rayCode : Ray → ℕ
 rayCode r = first (endRows bench r)
 
 unfoldable pub traced : Grid → List ℕ → Ray → Trace
-traced g densities r = cond (eqb (rayCode r) 0) (accepted g r densities) (refused (rayCode r))
+traced g densities r = cond (eqb (rayCode r) 0) (accepted (volume g) r densities) (refused (rayCode r))
 
 -- the voxels passed; of a refused ray none
 unfoldable pub passed : Grid → Ray → List ℕ

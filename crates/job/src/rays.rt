@@ -16,6 +16,7 @@ ghost use Rattle.job.specs.Read.{readRay};
 use crate::state::Moved;
 use crate::state::State;
 use path::Trace;
+use path::calls::trace;
 use ray::End;
 use ray::Grid;
 use ray::Ray;
@@ -56,15 +57,7 @@ fn traced_ray(g: Grid, r: Ray, densities: &[u16], voxels: &mut [u32], parts: &mu
     ensures { λ a. ⌜ take (a .entries) (now (voxels .exit)) ≡ passed g r ⌝ }
     ensures { λ a. ⌜ take (a .entries) (now (parts .exit)) ≡ map (partOf (volume g) r) (passed g r) ⌝ }
 {
-    Trace {
-        entries: 0,
-        crossed: 0,
-        span: 0,
-        d: 0,
-        squared: 0,
-        sum: 0,
-        code: 0,
-    }
+    trace(g, r, densities, voxels, parts)
 }
 
 fn put_cell(g: Grid, voxel: u32, part: u64, out: &mut [u8], at: usize) -> usize
