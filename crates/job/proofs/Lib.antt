@@ -1,0 +1,15 @@
+-- Laws of the text job.
+pub mod Example
+pub mod Refusals
+pub mod Taking
+pub mod Fields
+pub mod Cutting
+pub mod Printing
+pub mod Steps
+pub mod Loading
+pub mod Flow
+pub mod Places
+pub mod Ending
+pub mod Turns
+pub mod Running
+pub mod Tracing

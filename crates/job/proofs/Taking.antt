@@ -1,0 +1,97 @@
+-- What a grid that the job takes may be relied on for. Assumes nothing.
+use Prim.Native.Nat.{ℕ, zero, suc, _+_, _*_, _≤_, _<_}
+use mathlib.Core.Bool.{Bool, true, false, cond, _||_}
+use mathlib.Core.List.{[], _∷_}
+use mathlib.Core.Path.{_≡_, refl, sym, _∙_}
+use lib.Dec.{eqb, ltb}
+use native.Mathlib.Nat.{mul-le-mul, mul-le-mul-left, mul-le-mul-right, mul-assoc, mul-comm, mul-left-comm}
+use native.Mathlib.Decide.{decLe}
+use native.Mathlib.Omega.{arith}
+use borrow.Author.Tests.{ltb-false, ne-eqb}
+use Rattle.axis.specs.declared.Axis.{Axis}
+use Rattle.axis.specs.Codes.{bench, row, first, planesOut}
+use Rattle.ray.specs.declared.Grid.{Grid}
+use Rattle.ray.specs.Length.{X, Y, Z, volume, count}
+use Rattle.ray.specs.Codes.{gridRows}
+use Rattle.path.proofs.Accepting.{axes-ok}
+use Rattle.job.specs.Line.{gridCode}
+
+abbrev table : Bool → Bool → Bool → ℕ
+table s t u = first (row 1 s ∷ row 2 t ∷ row 3 u ∷ [])
+
+behind-table : (s t u : Bool) (rest : ℕ) → cond s 1 (cond t 2 (cond u 3 rest)) ≡ cond (eqb (table s t u) 0) rest (table s t u)
+behind-table true t u rest = refl
+behind-table false true u rest = refl
+behind-table false false true rest = refl
+behind-table false false false rest = refl
+
+pub record Sides (nx ny nz : ℕ) : Type 0 where
+  pub x : (0 < nx) × (nx ≤ 512)
+  pub y : (0 < ny) × (ny ≤ 512)
+  pub z : (0 < nz) × (nz ≤ 512)
+
+module _ (g : Grid) where
+  abbrev some : (Axis → Bool) → Bool
+  some refuses = refuses (g .x) || (refuses (g .y) || refuses (g .z))
+
+  abbrev noN : Axis → Bool
+  noN a = eqb (a .n) 0 || ltb 512 (a .n)
+
+  abbrev noD : Axis → Bool
+  noD a = eqb (a .d) 0 || ltb 4096 (a .d)
+
+  -- 25 stands behind 1, 2 and 3
+  pub code-then : gridCode g ≡ cond (eqb (first (gridRows bench g)) 0) (cond (ltb 4096 (count (volume g))) 25 0) (first (gridRows bench g))
+  code-then = behind-table (some noN) (some noD) (some (planesOut bench)) (cond (ltb 4096 (count (volume g))) 25 0)
+
+  -- the job takes a grid that no code refuses
+  pub code-zero : gridCode g ≡ 0 → (first (gridRows bench g) ≡ 0) × (count (volume g) ≤ 4096)
+  code-zero e = go (first (gridRows bench g)) (ltb 4096 (count (volume g))) refl (sym code-then ∙ e)
+    where
+      go : (code : ℕ) (many : Bool) → ltb 4096 (count (volume g)) ≡ many → cond (eqb code 0) (cond many 25 0) code ≡ 0 → (code ≡ 0) × (count (volume g) ≤ 4096)
+      go zero true m f = absurd (omega arith)
+      go zero false m f = (refl, ltb-false 4096 (count (volume g)) m)
+      go (suc code) many m f = let f′ : suc code ≡ 0 = rw (ne-eqb (suc code) 0 (λ z. omega arith)) at f in absurd (omega arith)
+
+  pub sides : first (gridRows bench g) ≡ 0 → Sides (g .x .n) (g .y .n) (g .z .n)
+  sides e = let ok = axes-ok bench g e in record { x = (ok X .some, ok X .few); y = (ok Y .some, ok Y .few); z = (ok Z .some, ok Z .few) }
+
+-- as many densities as ny·nz lines of nx hold
+pub all-lines : (nx ny nz : ℕ) → ny * nz * nx ≡ nx * ny * nz
+all-lines nx ny nz = simp (mul-assoc, mul-comm, mul-left-comm)
+
+-- products that fit 32 bits
+module _ (nx ny nz : ℕ) (s : Sides nx ny nz) where
+  pub rows-fit : nx * ny ≤ 262144
+  rows-fit = mul-le-mul {n₂ = 512} {m₂ = 512} (s .x .1) (s .y .1)
+
+  pub layers-fit : ny * nz ≤ 262144
+  layers-fit = mul-le-mul {n₂ = 512} {m₂ = 512} (s .y .1) (s .z .1)
+
+  pub voxels-fit : nx * ny * nz ≤ 134217728
+  voxels-fit = mul-le-mul {n₂ = 262144} {m₂ = 512} rows-fit (s .z .1)
+
+-- two sides of more than 45 voxels leave the third with one
+two-long : (a b c : ℕ) → 46 ≤ a → 46 ≤ b → 0 < c → a * b * c ≤ 4096 → a + b + c ≤ 602
+two-long a b c ha hb hc h =
+    let area : 2116 ≤ a * b = mul-le-mul {n₁ = 46} {m₁ = 46} ha hb in
+    omega (arith, mul-le-mul-right {m = 2116} {n = a * b} c area, mul-le-mul-left {m = 1} {n = c} (a * b) hc, mul-le-mul-right {m = 46} {n = a} b ha, mul-le-mul-left {m = 46} {n = b} a hb)
+
+-- The lists of 600 places suffice: of three sides with at most 4096 voxels two are at most 45 long, or one is 1 long.
+pub few-planes : (nx ny nz : ℕ) → Sides nx ny nz → nx * ny * nz ≤ 4096 → nx + ny + nz ≤ 602
+few-planes nx ny nz s h = elim (decLe nx 45) [
+  | yes i ↦ elim (decLe ny 45) [
+    | yes j ↦ omega arith
+    | no j ↦ elim (decLe nz 45) [
+      | yes k ↦ omega arith
+      | no k ↦ let e : nx * ny * nz ≡ ny * nz * nx = simp (mul-assoc, mul-comm, mul-left-comm) in omega (arith, two-long ny nz nx (omega arith) (omega arith) (s .x .0) (omega arith))
+    ]
+  ]
+  | no i ↦ elim (decLe ny 45) [
+    | yes j ↦ elim (decLe nz 45) [
+      | yes k ↦ omega arith
+      | no k ↦ let e : nx * ny * nz ≡ nx * nz * ny = simp (mul-assoc, mul-comm, mul-left-comm) in omega (arith, two-long nx nz ny (omega arith) (omega arith) (s .y .0) (omega arith))
+    ]
+    | no j ↦ two-long nx ny nz (omega arith) (omega arith) (s .z .0) h
+  ]
+]

@@ -1,0 +1,78 @@
+use Prim.Native.Nat.{_-_}
+use native.Mathlib.Omega.{arith}
+use lib.ListN.{length}
+use Rattle.ray.specs.Length.{volume}
+use Rattle.job.proofs.Printing.{Printing, cells-begin, cells-on, cells-end}
+use Rattle.job.proofs.rays.put_cells.Statement.{statement}
+use Rattle.job.proofs.rays.put_cells.Tie as tie
+use Rattle.job.proofs.rays.put_cells.Reads as reads
+use Rattle.job.proofs.rays.put_cells.Lts as lts
+use Rattle.job.proofs.rays.put_cell.Reads as put-cell-reads
+
+abbrev Inv-loop : tie.InvT-loop
+Inv-loop g voxels parts out₀ at e₀ to₀ out e to = Printing (volume g) voxels parts out₀ at out e to
+
+abbrev μ-loop : tie.MeasureT-loop
+μ-loop g voxels parts out₀ at e₀ to₀ out e to = length voxels - e
+
+loop-holds : tie.Need-loop-holds Inv-loop μ-loop
+loop-holds c =
+    let a = c .before .before .before .args in
+    cells-begin (volume (a .g)) (a .voxels .now) (a .parts .now) (a .out .now) (a .at)
+
+mul-put-cell : tie.Need-mul-put-cell Inv-loop μ-loop
+mul-put-cell c = omega arith
+
+shared-slice-read-put-cell : tie.Need-shared-slice-read-put-cell Inv-loop μ-loop
+shared-slice-read-put-cell c = omega arith
+
+mul-put-cell-2 : tie.Need-mul-put-cell-2 Inv-loop μ-loop
+mul-put-cell-2 c = omega arith
+
+shared-slice-read-put-cell-2 : tie.Need-shared-slice-read-put-cell-2 Inv-loop μ-loop
+shared-slice-read-put-cell-2 c = omega arith
+
+put-cell-requires : tie.Need-put-cell-requires Inv-loop μ-loop
+put-cell-requires c κs = (omega arith, omega arith, omega arith)
+
+add-e : tie.Need-add-e Inv-loop μ-loop
+add-e c = omega arith
+
+loop-less : tie.Need-loop-less Inv-loop μ-loop
+loop-less c = omega arith
+
+loop-again : tie.Need-loop-again Inv-loop μ-loop
+loop-again c =
+    let l = c .before .before .before .before .before .before .before in
+    let a = l .before .before .before .before .args in
+    let o = l .loop in
+    let put = c .before .before .put-cell in
+    cells-on (volume (a .g)) (a .voxels .now) (a .parts .now) (a .out .now) (a .at) (o .out) (o .e) (o .to) (o .inv) (put .last .1 .1 .1 .0) (put .result) (omega arith) (omega arith) (put .ensures .0) (put .kept .1 .1 .1 .0) (put .ensures .1)
+
+same-length : tie.Need-same-length Inv-loop μ-loop
+same-length c = c .before .loop .inv .kept
+
+returns : tie.Need-returns Inv-loop μ-loop
+returns c =
+    let l = c .before in
+    let a = l .before .before .before .before .args in
+    let o = l .loop in
+    (omega arith, cells-end (volume (a .g)) (a .voxels .now) (a .parts .now) (a .out .now) (a .at) (o .out) (o .e) (o .to) (o .inv) (omega arith))
+
+pub put-cells-spec : {M : Type 1} → statement M
+put-cells-spec =
+    tie.close
+    (tie.spec
+    Inv-loop
+    μ-loop
+    loop-holds
+    mul-put-cell
+    shared-slice-read-put-cell
+    mul-put-cell-2
+    shared-slice-read-put-cell-2
+    put-cell-requires
+    add-e
+    loop-less
+    loop-again
+    same-length
+    returns)

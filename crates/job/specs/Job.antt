@@ -1,0 +1,36 @@
+-- Document 01, "The text job": bytes in, bytes out. Definitions only. Assumes nothing.
+use Prim.Native.Nat.{ℕ}
+use mathlib.Core.Bool.{cond}
+use mathlib.Core.List.{List, [], _∷_, _++_}
+use lib.Dec.{eqb}
+use Rattle.text.specs.Split.{split}
+use Rattle.text.specs.Line.{lineOf}
+use Rattle.job.specs.Stand.{Stand, atFirst, placeAt}
+use Rattle.job.specs.Line.{Step, goes, stops, badLine, lineStep}
+
+abbrev pub END : List ℕ
+END = 69 ∷ 78 ∷ 68 ∷ []
+
+-- at the input's end, behind the last LF: "20 .. not ended"; "Input that ends before the last DENS prints code 22 with the
+-- number one past the last line"; "END: RAY lines answered, refused ones counted."
+abbrev pub atEnd : Stand → List ℕ → List ℕ
+atEnd s (b ∷ bs) = badLine (s .lines) 20
+atEnd s [] = cond (eqb (placeAt (s .lines) (s .left)) 2) (lineOf END (s .rays ∷ [])) (badLine (s .lines) 22)
+
+-- what a line prints, and then what comes behind it, unless the job stops
+abbrev pub andThen : Step → (Stand → List ℕ) → List ℕ
+andThen (goes o s) rest = o ++ rest s
+andThen (stops o) rest = o
+
+-- the lines that LF ends, and what stands behind the last LF
+unfoldable pub linesFrom : Stand → List (List ℕ) → List ℕ
+linesFrom s [] = []
+linesFrom s (l ∷ []) = atEnd s l
+linesFrom s (l ∷ m ∷ ms) = andThen (lineStep s l) (λ s′. linesFrom s′ (m ∷ ms))
+
+-- what the job prints from where it stands, "Lines end with LF": and the whole job
+unfoldable pub jobFrom : Stand → List ℕ → List ℕ
+jobFrom s bytes = linesFrom s (split 10 bytes)
+
+unfoldable pub jobOf : List ℕ → List ℕ
+jobOf bytes = jobFrom atFirst bytes

@@ -1,0 +1,45 @@
+-- Document 01, "The text job": what a RAY line prints. Definitions only. Assumes nothing.
+use Prim.Native.Nat.{ℕ}
+use mathlib.Core.Bool.{cond}
+use mathlib.Core.List.{List, [], _∷_, _++_, map}
+use lib.Dec.{eqb}
+use Rattle.axis.specs.Codes.{bench, first}
+use Rattle.ray.specs.declared.Grid.{Grid}
+use Rattle.ray.specs.declared.Ray.{Ray}
+use Rattle.ray.specs.Length.{Volume, X, Y, Z, volume, place, partOf, listOf}
+use Rattle.ray.specs.Codes.{endRows}
+use Rattle.path.specs.declared.Trace.{Trace}
+use Rattle.path.specs.Answer.{refused, accepted}
+use Rattle.text.specs.Line.{lineOf}
+use Rattle.text.specs.Word.{RAY}
+
+-- the word as bytes
+abbrev pub CELL : List ℕ
+CELL = 67 ∷ 69 ∷ 76 ∷ 76 ∷ []
+
+-- "A ray refused with 5 or 6": no other code is left, since the grid is accepted and the lists suffice
+abbrev pub rayCode : Ray → ℕ
+rayCode r = first (endRows bench r)
+
+unfoldable pub traced : Grid → List ℕ → Ray → Trace
+traced g densities r = cond (eqb (rayCode r) 0) (accepted (volume g) r densities) (refused (rayCode r))
+
+-- the voxels passed; of a refused ray none
+unfoldable pub passed : Grid → Ray → List ℕ
+passed g r = cond (eqb (rayCode r) 0) (listOf (volume g) r) []
+
+-- "RAY: code, entries, planes crossed, span, D, squared length, sum."
+abbrev pub figures : Trace → List ℕ
+figures t = t .code ∷ t .entries ∷ t .crossed ∷ t .span ∷ t .d ∷ t .squared ∷ t .sum ∷ []
+
+-- "CELL: i, j, k, part."
+abbrev pub cell : Volume → ℕ → ℕ → List ℕ
+cell v m part = lineOf CELL (place v m X ∷ place v m Y ∷ place v m Z ∷ part ∷ [])
+
+unfoldable pub cells : Volume → List ℕ → List ℕ → List ℕ
+cells v [] parts = []
+cells v (m ∷ ms) [] = []
+cells v (m ∷ ms) (part ∷ parts) = cell v m part ++ cells v ms parts
+
+unfoldable pub rayText : Grid → List ℕ → Ray → List ℕ
+rayText g densities r = lineOf RAY (figures (traced g densities r)) ++ cells (volume g) (passed g r) (map (partOf (volume g) r) (passed g r))

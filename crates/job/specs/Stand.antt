@@ -1,0 +1,36 @@
+-- Document 01, "The text job": where the job stands between two lines. Definitions only. Assumes nothing.
+use Prim.Native.Nat.{ℕ}
+use mathlib.Core.Bool.{cond}
+use mathlib.Core.List.{List, []}
+use lib.Dec.{eqb}
+use lib.IntN.{pos}
+use lib.ListN.{take}
+use Rattle.axis.specs.declared.Axis.{Axis}
+use Rattle.ray.specs.declared.Grid.{Grid}
+use Rattle.job.specs.declared.state.State.{State}
+
+-- the lines read; the grid, and how many DENS lines are still to come; the densities read; the RAY lines answered
+pub record Stand : Type 0 where
+  pub lines : ℕ
+  pub grid : Grid
+  pub left : ℕ
+  pub densities : List ℕ
+  pub rays : ℕ
+
+-- nothing is read, and the grid is not known yet
+abbrev noAxis : Axis
+noAxis = record { n = 0; d = 0; b = pos 0 }
+
+abbrev pub noGrid : Grid
+noGrid = record { x = noAxis; y = noAxis; z = noAxis }
+
+abbrev pub atFirst : Stand
+atFirst = record { lines = 0; grid = noGrid; left = 0; densities = []; rays = 0 }
+
+-- "First GRID ..; then ny·nz lines DENS ..; then any number of RAY lines": the place of the next line, 0, 1 or 2
+abbrev pub placeAt : (lines left : ℕ) → ℕ
+placeAt lines left = cond (eqb lines 0) 0 (cond (eqb left 0) 2 1)
+
+-- what a state says, where the densities read are the first of a list
+abbrev pub standOf : State → List ℕ → Stand
+standOf st densities = record { lines = st .lines; grid = st .grid; left = st .left; densities = take (st .filled) densities; rays = st .rays }

@@ -1,0 +1,78 @@
+// The whole job on an input that lies in memory: one promise, bytes in and bytes out.
+ghost use mathlib.Core.Path.{_≡_};
+ghost use Prim.Native.Nat.{_+_, _≤_};
+ghost use lib.ListN.{length, take};
+ghost use Rattle.job.specs.Job.{jobOf};
+ghost use Rattle.job.specs.Sound.{Lent, room};
+ghost use Rattle.job.specs.Read.{written};
+use crate::state::State;
+use crate::step::finish;
+use crate::step::pump;
+use text::put::put_bytes;
+
+// What writing the job's output came to: all of it, so many bytes, or the room did not suffice.
+pub enum Written {
+    All(usize),
+    Short,
+}
+
+// The job's output goes line by line through `answer`, so that it is known to fit before it is put
+// behind the rest.
+fn run(
+    input: &[u8],
+    line: &mut [u8],
+    densities: &mut [u16],
+    voxels: &mut [u32],
+    parts: &mut [u64],
+    answer: &mut [u8],
+    out: &mut [u8],
+) -> Written
+    requires { ⌜ Lent (length (now line)) (length (now densities)) (length (now voxels)) (length (now parts)) × (room ≤ length (now answer)) ⌝ }
+    ensures { λ r. ⌜ r ≡ written (jobOf (now (input .entry))) (length (now (out .entry))) ⌝ }
+    ensures { λ r. ⌜ (length (jobOf (now (input .entry))) ≤ length (now (out .entry)) → take (length (jobOf (now (input .entry)))) (now (out .exit)) ≡ jobOf (now (input .entry))) ⌝ }
+{
+    let mut st = State::new();
+    let mut next: usize = 0;
+    let mut to: usize = 0;
+    while next < input.len() {
+        let p = pump(st, line, input, next, densities, voxels, parts, answer, 0);
+        let m = p.moved;
+        let n = m.at;
+        if out.len() - to < n {
+            return Written::Short;
+        }
+        to = put_bytes(out, to, &answer[..n]);
+        if !m.going {
+            return Written::All(to);
+        }
+        st = m.state;
+        next = p.next;
+    }
+    let n = finish(st, answer, 0);
+    if out.len() - to < n {
+        return Written::Short;
+    }
+    to = put_bytes(out, to, &answer[..n]);
+    Written::All(to)
+}
+
+// Writes what the job prints on this input into out, where it has room for all of it.
+pub fn job(input: &[u8], out: &mut [u8]) -> Written
+    ensures { λ r. ⌜ r ≡ written (jobOf (now (input .entry))) (length (now (out .entry))) ⌝ }
+    ensures { λ r. ⌜ (length (jobOf (now (input .entry))) ≤ length (now (out .entry)) → take (length (jobOf (now (input .entry)))) (now (out .exit)) ≡ jobOf (now (input .entry))) ⌝ }
+{
+    let mut line: [u8; 4096] = [0; 4096];
+    let mut densities: [u16; 4096] = [0; 4096];
+    let mut voxels: [u32; 600] = [0; 600];
+    let mut parts: [u64; 600] = [0; 600];
+    let mut answer: [u8; 53551] = [0; 53551];
+    run(
+        input,
+        &mut line,
+        &mut densities,
+        &mut voxels,
+        &mut parts,
+        &mut answer,
+        out,
+    )
+}
