@@ -1,9 +1,9 @@
 // The trace: which voxels a ray passes, how much of it lies in each, and the weighted sum.
-pub mod accept;
+mod accept;
 pub mod calls;
 pub mod code;
-pub mod scene;
-pub mod weigh;
+mod scene;
+mod weigh;
 
 // What a trace hands back beside the two lists. Where the code is not 0 every other field is.
 pub struct Trace {
