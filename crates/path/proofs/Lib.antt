@@ -5,3 +5,4 @@ pub mod Weighing
 pub mod Hits
 pub mod Answering
 pub mod Appending
+pub mod Counted
