@@ -6,3 +6,4 @@ pub mod Hits
 pub mod Answering
 pub mod Appending
 pub mod Counted
+pub mod Demand2
