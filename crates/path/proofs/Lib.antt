@@ -7,3 +7,6 @@ pub mod Answering
 pub mod Appending
 pub mod Counted
 pub mod Demand2
+pub mod Free
+pub mod OneCall
+pub mod Room
