@@ -10,3 +10,4 @@ pub mod Demand2
 pub mod Free
 pub mod OneCall
 pub mod Room
+pub mod TurnedCalls
