@@ -11,3 +11,5 @@ pub mod Free
 pub mod OneCall
 pub mod Room
 pub mod TurnedCalls
+pub mod Share
+pub mod CutCalls
