@@ -14,8 +14,8 @@ use Rattle.axis.specs.Codes.{bench, first}
 use Rattle.axis.proofs.Once.{once}
 use Rattle.ray.specs.declared.Grid.{Grid}
 use Rattle.ray.specs.declared.Ray.{Ray}
-use Rattle.ray.specs.Length.{volume, voxel, dOf, partOf, listOf}
-use Rattle.ray.specs.Codes.{traceRows}
+use Rattle.ray.specs.Length.{volume, voxel, dOf, partOf, listOf, sumOf, crossedOf}
+use Rattle.ray.specs.Codes.{endRows, traceRows}
 use Rattle.ray.proofs.Fraction.{Is}
 use Rattle.ray.proofs.Formula.{lengthIn}
 use Rattle.path.specs.declared.Trace.{Trace}
@@ -85,6 +85,15 @@ module _ {g : Grid} {r : Ray} {densities vs ps vs′ ps′ : List ℕ} {filled :
     pub entries-are : a .entries ≡ length (listOf (volume g) r)
     entries-are = ap (λ (x : Trace). x .entries) fields
 
+    pub crossed-is : a .crossed ≡ crossedOf (volume g) r
+    crossed-is = ap (λ (x : Trace). x .crossed) fields
+
+    pub d-is : a .d ≡ dOf r
+    d-is = ap (λ (x : Trace). x .d) fields
+
+    pub sum-is : a .sum ≡ sumOf (volume g) r densities
+    sum-is = ap (λ (x : Trace). x .sum) fields
+
     -- "On code 0 the first 'entries' places of both lists hold the answer and later places are as they were."
     pub voxels-are : Put filled (a .entries) (listOf (volume g) r) vs vs′
     unfolding voxelsAfter
@@ -132,10 +141,22 @@ module _ {g : Grid} {r : Ray} {densities vs ps vs′ ps′ : List ℕ} {a : Trac
   lengths-are i k =
       let e : getD vs′ i 0 ≡ getD (listOf (volume g) r) i 0 = sym (getD-take (a .entries) vs′ i 0 k) ∙ ap (λ (xs : List ℕ). getD xs i 0) (voxels-front .here) in
       let f : getD ps′ i 0 ≡ getD (map (partOf (volume g) r) (listOf (volume g) r)) i 0 = sym (getD-take (a .entries) ps′ i 0 k) ∙ ap (λ (xs : List ℕ). getD xs i 0) (parts-front .here) in
-      let d : a .d ≡ dOf r = ap (λ (x : Trace). x .d) (fields t h) in
-      rw (e, f, d) (lengths g r i (omega (arith, entries-are t h)))
+      rw (e, f, d-is t h) (lengths g r i (omega (arith, entries-are t h)))
 
--- ---- two calls alike
+-- ---- two calls
+-- Where a call is accepted, so is one of another ray through the same densities, if its ends are, it has no more entries, and it is lent
+-- lists as long.
+pub accepted-too : {g : Grid} {r r′ : Ray} {densities vs ps vs′ ps′ ws qs ws′ qs′ : List ℕ} {a b : Trace}
+    → Traced g r densities vs ps a vs′ ps′ → a .code ≡ 0 → Traced g r′ densities ws qs b ws′ qs′
+    → first (endRows bench r′) ≡ 0 → length (listOf (volume g) r′) ≤ length (listOf (volume g) r)
+    → length ws ≡ length qs → length vs ≤ length ws → b .code ≡ 0
+accepted-too t h u ends few lists long =
+    let f = free t h in
+    accepts-free u (record {
+      accepted = record { grid = f .accepted .grid; ends = ends; densities-are = f .accepted .densities-are; lists-are = lists };
+      room = omega (arith, f .room);
+    })
+
 module _ {g : Grid} {r : Ray} {densities vs ps : List ℕ} {filled : ℕ} where
   -- one answer is allowed, and one content of each list
   pub answers-once : {a b : Trace} {vs′ ps′ ws qs : List ℕ} → Answers g r densities vs ps filled a vs′ ps′ → Answers g r densities vs ps filled b ws qs

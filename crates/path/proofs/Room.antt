@@ -1,6 +1,6 @@
 -- How many places a call needs: one more than the planes crossed, and nx + ny + nz - 2, are always enough. Assumes nothing.
 use Prim.Native.Nat.{ℕ, _+_, _≤_}
-use mathlib.Core.Path.{_≡_, ap}
+use mathlib.Core.Path.{_≡_}
 use mathlib.Core.List.{List}
 use native.Mathlib.Omega.{arith}
 use lib.ListN.{length}
@@ -12,14 +12,14 @@ use Rattle.path.specs.Inside.{Accepted}
 use Rattle.path.proofs.Raised.{bench-small}
 use Rattle.path.proofs.Counted.{entries-crossed, entries-few}
 use Rattle.path.proofs.Answering.{Answers}
-use Rattle.path.proofs.OneCall.{free, accepts-free, fields, entries-are}
+use Rattle.path.proofs.OneCall.{free, accepts-free, entries-are, crossed-is}
 
 module _ {g : Grid} {r : Ray} {densities vs ps vs′ ps′ : List ℕ} {filled : ℕ} {a : Trace} (t : Answers g r densities vs ps filled a vs′ ps′) where
   module _ (h : a .code ≡ 0) where
     pub within-crossed : a .entries ≤ a .crossed + 1
     within-crossed =
         let ok = free t h .accepted in
-        omega (arith, entries-crossed bench bench-small g r (ok .grid) (ok .ends), entries-are t h, ap (λ (x : Trace). x .crossed) (fields t h))
+        omega (arith, entries-crossed bench bench-small g r (ok .grid) (ok .ends), entries-are t h, crossed-is t h)
 
     pub within-sizes : a .entries + 2 ≤ g .x .n + g .y .n + g .z .n
     within-sizes = let ok = free t h .accepted in omega (arith, entries-few bench bench-small g r (ok .grid) (ok .ends), entries-are t h)

@@ -14,7 +14,7 @@ use Rattle.ray.proofs.TurnedList.{grid-turns}
 use Rattle.ray.proofs.Ends.{ends-turned}
 use Rattle.path.specs.declared.Trace.{Trace}
 use Rattle.path.specs.Answer.{accepted}
-use Rattle.path.proofs.OneCall.{Traced, free, accepts-free, fields, voxels-front, parts-front}
+use Rattle.path.proofs.OneCall.{Traced, free, fields, voxels-front, parts-front, accepted-too}
 
 module _ (g : Grid) (r : Ray) where
   as-many : length (listOf (volume g) (turned r)) ≡ length (listOf (volume g) r)
@@ -35,17 +35,7 @@ module _ {g : Grid} {r : Ray} {densities vs₁ ps₁ vs₁′ ps₁′ vs₂ ps�
     (there : Traced g r densities vs₁ ps₁ a₁ vs₁′ ps₁′) (back : Traced g (turned r) densities vs₂ ps₂ a₂ vs₂′ ps₂′) where
   -- a ray that is accepted is accepted turned round, in lists that are as long
   pub turned-accepted : a₁ .code ≡ 0 → length vs₂ ≡ length ps₂ → length vs₁ ≤ length vs₂ → a₂ .code ≡ 0
-  turned-accepted h lists long =
-      let f = free there h in
-      accepts-free back (record {
-        accepted = record {
-          grid = f .accepted .grid;
-          ends = ends-turned bench r ∙ f .accepted .ends;
-          densities-are = f .accepted .densities-are;
-          lists-are = lists;
-        };
-        room = omega (arith, as-many g r, f .room);
-      })
+  turned-accepted h = accepted-too there h back (ends-turned bench r ∙ free there h .accepted .ends) (omega (arith, as-many g r))
 
   module _ (h₁ : a₁ .code ≡ 0) (h₂ : a₂ .code ≡ 0) where
     -- entries, planes crossed, span, D, squared length and sum
