@@ -1,6 +1,6 @@
 -- What the codes say: of a grid and of ends that are accepted, and of the whole table in its order. Assumes nothing.
 use Prim.Native.Nat.{ℕ, _+_}
-use mathlib.Core.Path.{_≡_, refl, sym, ap, _∙_}
+use mathlib.Core.Path.{_≡_, refl, ap, _∙_}
 use mathlib.Core.Bool.{Bool, true, false, _||_, not, cond}
 use native.Mathlib.Omega.{arith}
 use lib.Dec.{eqb, ltb}

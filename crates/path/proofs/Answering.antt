@@ -1,21 +1,19 @@
 -- From what the code finds to document 01's answer: the code, the fields and both lists afterwards. Assumes nothing.
 use Prim.Native.Nat.{ℕ, _+_, _^_, _≤_, _<_}
 use mathlib.Core.Path.{_≡_, refl, sym, ap, _∙_, subst}
-use mathlib.Core.Bool.{Bool, true, false, not, cond}
-use mathlib.Core.List.{List, [], _∷_, map}
+use mathlib.Core.Bool.{Bool, true, false, cond}
+use mathlib.Core.List.{List, [], map}
 use native.Mathlib.Omega.{arith}
-use native.Mathlib.Nat.{zero-add}
 use lib.IntN.{ℤ, pos}
-use lib.Dec.{eqb, ltb, leb}
+use lib.Dec.{ltb, leb}
 use lib.ListN.{length}
-use borrow.Author.Tests.{eq-eqb, ne-eqb, lt-ltb, le-ltb, leb-true, leb-false, le-leb, not-false}
-use Rattle.axis.specs.Codes.{bench, first}
+use borrow.Author.Tests.{ne-eqb, lt-ltb, le-ltb, leb-true, leb-false}
+use Rattle.axis.specs.Codes.{bench}
 use Rattle.ray.specs.declared.Grid.{Grid}
 use Rattle.ray.specs.declared.Ray.{Ray}
-use Rattle.ray.specs.Length.{volume, count, dOf, squaredOf, misses, partOf, spanOf, listOf, sumOf, crossedOf}
-use Rattle.ray.specs.Codes.{gridRows, endRows}
+use Rattle.ray.specs.Length.{volume, count, dOf, squaredOf, misses, partOf, spanOf, listOf, crossedOf}
 use Rattle.ray.proofs.TurnedList.{map-same}
-use Rattle.ray.proofs.Moved.{Moved, d-moved, squared-moved, part-moved, misses-moved, span-moved, list-moved, sum-moved, crossed-moved}
+use Rattle.ray.proofs.Moved.{Moved, d-moved, squared-moved, part-moved, span-moved, list-moved, sum-moved, crossed-moved}
 use Rattle.walk.specs.declared.line.Scene.{Scene}
 use Rattle.walk.specs.Scene.{volumeOf, rayOf, Able}
 use Rattle.walk.proofs.Counts.{missed-list, missed-sum}

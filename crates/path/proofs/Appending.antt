@@ -1,7 +1,7 @@
 -- A trace lent the tails of the lists answers for the lists, behind the places filled. Assumes nothing.
-use Prim.Native.Nat.{ℕ, zero, _+_, _-_, _≤_, _<_}
+use Prim.Native.Nat.{ℕ, _+_, _-_, _≤_}
 use mathlib.Core.Path.{_≡_, refl, sym, ap, _∙_}
-use mathlib.Core.Bool.{Bool, true, false, not, cond}
+use mathlib.Core.Bool.{Bool, true, false, cond}
 use mathlib.Core.List.{List, [], _++_, map, append-nil}
 use native.Mathlib.Omega.{arith}
 use native.Mathlib.Decide.{ℕ-discrete, decLt}
@@ -11,11 +11,9 @@ use lib.ListN.{length, take, drop, length-drop, drop-of-length-le}
 use lib.Seq.{drop-drop, take-length}
 use borrow.Author.Tests.{eq-eqb, ne-eqb, lt-ltb, le-ltb}
 use borrow.Rule.Slice.PartMut.{midOf, postOf, putMid, mid-len, post-is, put-same}
-use Rattle.axis.specs.Codes.{bench, first}
 use Rattle.ray.specs.declared.Grid.{Grid}
 use Rattle.ray.specs.declared.Ray.{Ray}
-use Rattle.ray.specs.Length.{volume, count, partOf, listOf}
-use Rattle.ray.specs.Codes.{gridRows, endRows}
+use Rattle.ray.specs.Length.{volume, partOf, listOf}
 use Rattle.path.specs.declared.Trace.{Trace}
 use Rattle.path.specs.Answer.{codeOf, answerOf, written, voxelsAfter, partsAfter}
 use Rattle.path.proofs.Accepting.{in-stages}

@@ -1,14 +1,13 @@
 -- What tracing a ray that hits comes to: the lists hold the list and its parts, and the answer is the definitions'. Assumes nothing.
 use Prim.Native.Nat.{ℕ, zero, suc, _+_, _-_, _*_, _^_, _≤_, _<_, min}
 use mathlib.Core.Path.{_≡_, refl, sym, ap, _∙_}
-use mathlib.Core.Bool.{Bool, true, false, not, cond}
-use mathlib.Core.List.{List, [], _∷_, _++_, map, sum, List·Memᴰ, List·Memᴰ·head, List·Memᴰ·tail}
+use mathlib.Core.Bool.{false}
+use mathlib.Core.List.{List, [], _∷_, map, sum, List·Memᴰ, List·Memᴰ·head, List·Memᴰ·tail}
 use native.Mathlib.Omega.{arith}
-use native.Mathlib.Nat.{le-trans, zero-add}
+use native.Mathlib.Nat.{zero-add}
 use lib.ListN.{length, take, drop, getD, length-map, length-take, take-append-drop}
-use lib.Dec.{leb}
 use borrow.Author.Tests.{not-true}
-use Rattle.ray.specs.Length.{Volume, count, dOf, squaredOf, array, start, stop, misses, partOf, spanOf, listOf, sumOf, crossedOf}
+use Rattle.ray.specs.Length.{Volume, dOf, squaredOf, misses, partOf, spanOf, listOf, sumOf}
 use Rattle.ray.specs.declared.Ray.{Ray}
 use Rattle.ray.proofs.Total.{sumList}
 use Rattle.ray.proofs.Listing.{list-sound}
@@ -17,13 +16,13 @@ use Rattle.walk.specs.declared.line.Scene.{Scene}
 use Rattle.walk.specs.declared.plan.Frame.{Frame}
 use Rattle.walk.specs.declared.plan.Plan.{Plan}
 use Rattle.walk.specs.Scene.{volumeOf, rayOf}
-use Rattle.walk.specs.Model.{Entry, voxels, parts, entries, Filled}
-use Rattle.walk.specs.Plan.{Framed, Planned}
+use Rattle.walk.specs.Model.{Entry, entries, Filled}
+use Rattle.walk.specs.Plan.{Planned}
 use Rattle.walk.proofs.Plans.{proper}
 use Rattle.walk.proofs.Counts.{parts-span, entries-crossed}
 use Rattle.path.specs.declared.Trace.{Trace}
 use Rattle.path.specs.Answer.{accepted, written}
-use Rattle.path.specs.Inside.{weighed, summed, Weighable, Hitting}
+use Rattle.path.specs.Inside.{weighed, Weighable, Hitting}
 
 -- ---- lists
 pub getD-member : (xs : List ℕ) (i : ℕ) → i < length xs → List·Memᴰ (getD xs i 0) xs

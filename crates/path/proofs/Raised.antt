@@ -1,23 +1,21 @@
 -- A grid and a ray that are accepted, told from the lower limit up: a scene within the walk's sizes, and the same volume and ray
 -- moved by the limit. At any limits that are small enough. Assumes nothing.
-use Prim.Native.Nat.{ℕ, _+_, _*_, _^_, _≤_, _<_}
+use Prim.Native.Nat.{ℕ, _+_, _*_, _^_, _≤_}
 use mathlib.Core.Path.{_≡_, refl, sym, ap, _∙_}
-use mathlib.Core.Bool.{Bool, true}
+use mathlib.Core.Bool.{true}
 use native.Mathlib.Omega.{arith}
 use native.Mathlib.Nat.{mul-le-mul}
 use lib.IntN.{ℤ, pos, _+ℤ_}
 use Rattle.axis.specs.Leg.{factor, natural}
 use Rattle.axis.specs.Codes.{Limits, bench, inside, first}
-use Rattle.axis.proofs.Shift.{shift, shift-is, shift-add, low-add}
-use Rattle.axis.proofs.Bounds.{AxisOk, inside-low, inside-most}
+use Rattle.axis.proofs.Shift.{shift-is, shift-add, low-add}
+use Rattle.axis.proofs.Bounds.{inside-low, inside-most}
 use Rattle.ray.specs.declared.Grid.{Grid}
 use Rattle.ray.specs.declared.Ray.{Ray}
 use Rattle.ray.specs.Length.{Side, X, Y, Z, leg, dOf, volume}
 use Rattle.ray.specs.Codes.{gridRows, endRows}
 use Rattle.ray.proofs.Moved.{Moved}
-use Rattle.walk.specs.declared.line.Line.{Line}
-use Rattle.walk.specs.Scene.{legN, line, volumeOf, rayOf, Sized, Able}
-use Rattle.walk.proofs.Scenes.{leg-is}
+use Rattle.walk.specs.Scene.{line, volumeOf, rayOf, Sized, Able}
 use Rattle.walk.proofs.Sizes.{factor-most}
 use Rattle.path.specs.Inside.{lineOf, sceneOf}
 use Rattle.path.proofs.Accepting.{axisOf, axes-ok, ends-inside}

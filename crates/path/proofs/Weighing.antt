@@ -1,13 +1,13 @@
 -- The weighted sum of a list of entries, entry by entry; of the ray's list it is ray's weighted sum. Assumes nothing.
-use Prim.Native.Nat.{ℕ, zero, suc, _+_, _*_, _^_, _≤_, _<_}
-use mathlib.Core.Path.{_≡_, refl, sym, ap, _∙_}
-use mathlib.Core.List.{List, [], _∷_, map, sum}
+use Prim.Native.Nat.{ℕ, _+_, _*_, _≤_, _<_}
+use mathlib.Core.Path.{_≡_, refl, _∙_}
+use mathlib.Core.List.{List, [], _∷_, sum}
 use native.Mathlib.Omega.{arith}
 use native.Mathlib.Numerals.{add-one}
-use native.Mathlib.Nat.{mul-le-mul-left, add-mul, mul-le-mul-right}
+use native.Mathlib.Nat.{mul-le-mul-left, add-mul}
 use lib.ListN.{length, drop, getD, drop-of-length-le}
 use lib.Seq.{drop-cons}
-use Rattle.path.specs.Inside.{weighed, summed, Weighable}
+use Rattle.path.specs.Inside.{weighed, summed}
 
 module _ (densities : List ℕ) (small : (v : ℕ) → getD densities v 0 ≤ 65535) where
   -- "it stays below 2^61": no density is over 65535

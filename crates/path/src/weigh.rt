@@ -1,7 +1,6 @@
 // The weighted sum over a list of entries.
 ghost use mathlib.Core.Path.{_≡_};
-ghost use Prim.Native.Nat.{ℕ, _^_, _≤_, _<_};
-ghost use lib.ListN.{length, getD};
+ghost use Prim.Native.Nat.{_<_};
 ghost use Rattle.path.specs.Inside.{weighed, Weighable};
 
 // The sum of part·density over two lists of one length.

@@ -1,6 +1,6 @@
 -- One coordinate of a place on the ray: over a small fraction it is what it is over D, and it is between the planes of an accepted
 -- axis that holds the place. Assumes nothing.
-use Prim.Native.Nat.{ℕ, _+_, _-_, _*_, _≤_, _<_}
+use Prim.Native.Nat.{ℕ, _*_, _≤_, _<_}
 use mathlib.Core.Path.{_≡_, sym, ap, _∙_, subst}
 use mathlib.Core.Bool.{true}
 use native.Mathlib.Nat.{mul-comm, mul-assoc}

@@ -1,6 +1,6 @@
 -- The point call's answer from what was found, and what document 01 says of every hit's two points, for every grid and ray that the
 -- call accepts, at any limits up to half of 2 ^ 20. Assumes nothing.
-use Prim.Native.Nat.{ℕ, _+_, _-_, _*_, _^_, _≤_, _<_, zero-le}
+use Prim.Native.Nat.{ℕ, _+_, _^_, _≤_, _<_, zero-le}
 use mathlib.Core.Path.{_≡_, refl, sym, _∙_, subst}
 use mathlib.Core.Bool.{true}
 use native.Mathlib.Nat.{min-le-left, min-le-right, le-max-left, le-max-right, le-refl, le-trans, lt-of-lt-of-le, lt-of-le-of-lt, le-of-eq, le-of-lt}

@@ -1,13 +1,16 @@
--- A voxel's number below the count: its places are within the volume, and it is the number of its places. Assumes nothing.
-use Prim.Native.Nat.{ℕ, zero, suc, _+_, _*_, _/_, _<_}
+-- A voxel's number and its places: a number below the count has places within the volume and is their number, and the other way round. Assumes nothing.
+use Prim.Native.Nat.{ℕ, zero, suc, _+_, _*_, _/_, _≤_, _<_}
 use mathlib.Core.Path.{_≡_, sym, ap, _∙_}
 use native.Mathlib.Omega.{arith}
-use native.Mathlib.Nat.{zero-mul, mul-zero, mul-comm, mul-assoc, mod-lt, div-lt-iff-lt-mul, div-add-mod'}
+use native.Mathlib.Nat.{zero-mul, mul-zero, mul-comm, mul-assoc, mod-lt, div-lt-iff-lt-mul, div-add-mod', mul-add-div-right, mul-add-mod-self-right, mod-eq-of-lt, div-eq-of-lt, add-zero, mul-le-mul-right, suc-mul}
 use Rattle.ray.specs.Length.{Side, X, Y, Z, Volume, count, place}
 
 -- i + nx·(j + ny·k), written the way that division takes it apart
-abbrev number : Volume → (Side → ℕ) → ℕ
+abbrev pub number : Volume → (Side → ℕ) → ℕ
 number v at = (at Z * v Y .n + at Y) * v X .n + at X
+
+turned : (a b c : ℕ) → c * b * a ≡ a * b * c
+turned a b c = mul-comm (c * b) a ∙ ap (λ (x : ℕ). a * x) (mul-comm c b) ∙ sym (mul-assoc a b c)
 
 some-of : (a b c m : ℕ) → m < a * b * c → (0 < a) × (0 < b) × (0 < c)
 some-of zero b c m h = absurd (omega (arith, ap (λ (x : ℕ). x * c) (zero-mul b), zero-mul c))
@@ -16,7 +19,7 @@ some-of (suc a) (suc b) zero m h = absurd (omega (arith, mul-zero (suc a * suc b
 some-of (suc a) (suc b) (suc c) m h = (omega arith, omega arith, omega arith)
 
 module _ (v : Volume) (m : ℕ) where
-  number-place : number v (place v m) ≡ m
+  pub number-place : number v (place v m) ≡ m
   number-place = rw (div-add-mod' (m / v X .n) (v Y .n), div-add-mod' m (v X .n))
 
   module _ (h : m < count v) where
@@ -27,9 +30,27 @@ module _ (v : Volume) (m : ℕ) where
     place-below X = mod-lt m (some .0)
     place-below Y = mod-lt (m / v X .n) (some .1)
     place-below Z =
-        let e : v Z .n * v Y .n * v X .n ≡ count v =
-        mul-comm (v Z .n * v Y .n) (v X .n) ∙ ap (λ (x : ℕ). v X .n * x) (mul-comm (v Z .n) (v Y .n)) ∙ sym (mul-assoc (v X .n) (v Y .n) (v Z .n)) in
+        let e : v Z .n * v Y .n * v X .n ≡ count v = turned (v X .n) (v Y .n) (v Z .n) in
         div-lt-iff-lt-mul (some .1) .1 (div-lt-iff-lt-mul (some .0) .1 (omega arith))
 
 pub place-same : (v : Volume) (m w : ℕ) → ((s : Side) → place v m s ≡ place v w s) → m ≡ w
 place-same v m w e = sym (number-place v m) ∙ rw (e X, e Y, e Z) (number-place v w)
+
+module _ (v : Volume) (at : Side → ℕ) (h : (s : Side) → at s < v s .n) where
+  rest-is : number v at / v X .n ≡ at Z * v Y .n + at Y
+  rest-is =
+      mul-add-div-right (omega (arith, h X)) (at Z * v Y .n + at Y) (at X)
+      ∙ ap (λ (x : ℕ). (at Z * v Y .n + at Y) + x) (div-eq-of-lt (h X)) ∙ add-zero (at Z * v Y .n + at Y)
+
+  pub place-number : (s : Side) → place v (number v at) s ≡ at s
+  place-number X = mul-add-mod-self-right (at Z * v Y .n + at Y) (v X .n) (at X) ∙ mod-eq-of-lt (h X)
+  place-number Y = rw rest-is (mul-add-mod-self-right (at Z) (v Y .n) (at Y) ∙ mod-eq-of-lt (h Y))
+  place-number Z =
+      rw rest-is (mul-add-div-right (omega (arith, h Y)) (at Z) (at Y) ∙ ap (λ (x : ℕ). at Z + x) (div-eq-of-lt (h Y)) ∙ add-zero (at Z))
+
+  pub number-below : number v at < count v
+  number-below =
+      let a : at Z * v Y .n + v Y .n ≤ v Z .n * v Y .n = omega (arith, mul-le-mul-right (v Y .n) (h Z), suc-mul (at Z) (v Y .n)) in
+      let b : suc (at Z * v Y .n + at Y) ≤ v Z .n * v Y .n = omega (arith, h Y) in
+      let e : v Z .n * v Y .n * v X .n ≡ count v = turned (v X .n) (v Y .n) (v Z .n) in
+      omega (arith, mul-le-mul-right (v X .n) b, suc-mul (at Z * v Y .n + at Y) (v X .n), h X)

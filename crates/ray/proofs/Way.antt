@@ -20,7 +20,7 @@ Goes up p q = p < q
 Goes down p q = q < p
 Goes still p q = p ≡ q
 
-way : (p q : ℕ) → (w : Way) × Goes w p q
+pub way : (p q : ℕ) → (w : Way) × Goes w p q
 way p q = elim (decLt p q) [ yes h ↦ (up, h) | no h ↦ elim (decLt q p) [ yes k ↦ (down, k) | no k ↦ (still, omega arith) ] ]
 
 abbrev pub moves : Way → Bool

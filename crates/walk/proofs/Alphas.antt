@@ -18,12 +18,13 @@ use Rattle.walk.specs.declared.steps.Walk.{Walk}
 use Rattle.walk.specs.declared.steps.Strides.{Strides}
 use Rattle.walk.specs.Scene.{legN, plane, line, Able}
 use Rattle.walk.specs.Model.{leaveOf, soonest, entries, Forward}
-use Rattle.walk.proofs.Units.{Way, up, down, still, Goes, moves, stays, run-up, run-down}
+use Rattle.ray.proofs.Way.{Way, up, down, still, Goes}
+use Rattle.walk.proofs.Units.{moves, stays, run-up, run-down}
 use Rattle.walk.proofs.Three.{least-le, least-one}
 use Rattle.walk.proofs.Stretch.{enterAt, leaveAt}
 use Rattle.walk.proofs.Crossing.{up-rise, down-fall}
 use Rattle.walk.proofs.Turns.{step-tick}
-use Rattle.walk.proofs.Numbers.{number}
+use Rattle.ray.proofs.Places.{number}
 use Rattle.walk.proofs.Scenes.{vol, ray, way, going, leg-is, leave}
 use Rattle.walk.proofs.Walking.{Paced, Walking, start-late, here-below, here-start, soon-later, to-d, next-at}
 use Rattle.walk.proofs.Found.{walk-all}

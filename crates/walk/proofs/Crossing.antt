@@ -5,18 +5,17 @@ use mathlib.Core.Bool.{Bool, true, false, _&&_, cond}
 use native.Mathlib.Omega.{arith}
 use native.Mathlib.Decide.{decLe, decLt}
 use native.Mathlib.Nat.{mul-le-mul-right}
-use lib.IntN.{pos}
 use lib.Dec.{ltb, leb}
 use borrow.Author.Tests.{lt-ltb, le-ltb, le-leb, lt-leb}
-use Rattle.axis.specs.Leg.{moving, run}
 use Rattle.axis.proofs.Flag.{leb-same}
 use Rattle.ray.specs.Length.{total}
 use Rattle.ray.proofs.Total.{total-same, total-zero}
 use Rattle.walk.specs.declared.line.Line.{Line}
-use Rattle.walk.specs.Scene.{legN, slabN, plane, Within}
+use Rattle.walk.specs.Scene.{plane, Within}
 use Rattle.walk.specs.Plan.{crossAt, crossedOn}
-use Rattle.walk.proofs.Units.{Way, up, down, still, Goes, goes, enterBy, leaveBy, enters-is, leaves-is, held-by, moves, stays, run-up, run-down}
-use Rattle.walk.proofs.Stretch.{plane-next, plane-mono, one-voxel}
+use Rattle.ray.proofs.Way.{Way, up, down, still, Goes, way as goes}
+use Rattle.walk.proofs.Units.{enterBy, leaveBy, enters-is, leaves-is, held-by, moves, stays, run-up, run-down}
+use Rattle.walk.proofs.Stretch.{plane-mono, one-voxel}
 
 -- ---- the numbers above lo and up to hi, counted
 band : (lo hi n : ℕ) → total (λ i. cond (ltb lo i && leb i hi) 1 0) n ≡ min (hi + 1) n - (lo + 1)

@@ -1,24 +1,23 @@
 -- What the walk's entries are, once it is known to be walking: ray's list, with its parts, which add up to what is left of the
 -- span, and not more of them than planes ahead. One induction over the turns carries each. Assumes nothing.
-use Prim.Native.Nat.{ℕ, zero, suc, _+_, _-_, _*_, _%_, _^_, _≤_, _<_}
-use mathlib.Core.Path.{_≡_, refl, sym, ap, _∙_, subst}
-use mathlib.Core.Bool.{Bool, true, false, cond}
+use Prim.Native.Nat.{ℕ, zero, suc, _+_, _-_, _≤_, _<_}
+use mathlib.Core.Path.{_≡_, refl, sym, subst}
 use mathlib.Core.List.{List, [], _∷_, _++_, map, sum, append-assoc}
 use native.Mathlib.Omega.{arith}
 use native.Mathlib.Decide.{decLe}
-use lib.ListN.{length}
-use Rattle.ray.specs.Length.{Side, X, Y, Z, count, array, voxel, start, stop, partOf, listOf}
+use Rattle.ray.specs.Length.{Side, count, array, start, stop, partOf, listOf}
+use Rattle.ray.proofs.Apart.{starts-apart}
 use Rattle.ray.proofs.Total.{sumList}
 use Rattle.ray.proofs.Listing.{Listed, SoFar, starts, one-more, none-yet, all-found, list-is}
 use Rattle.walk.specs.declared.line.Scene.{Scene}
 use Rattle.walk.specs.declared.steps.Walk.{Walk}
 use Rattle.walk.specs.declared.steps.Strides.{Strides}
-use Rattle.walk.specs.Scene.{line, Able}
+use Rattle.walk.specs.Scene.{Able}
 use Rattle.walk.specs.Model.{soonest, stepped, Entry, entry, voxels, parts, entries, Forward}
 use Rattle.walk.proofs.Turns.{forward-on, step-tick, entries-last, entries-more}
-use Rattle.walk.proofs.Numbers.{number}
-use Rattle.walk.proofs.Scenes.{vol, ray, met}
-use Rattle.walk.proofs.Walking.{Paced, Walking, start-late, stop-soon, starts-apart, here-below, here-start, here-only, soon-later, part-more, part-last, number-kept, onAt, walking-on}
+use Rattle.ray.proofs.Places.{number}
+use Rattle.walk.proofs.Scenes.{vol, ray, scene-rise, met}
+use Rattle.walk.proofs.Walking.{Paced, Walking, start-late, stop-soon, here-below, here-start, here-only, soon-later, part-more, part-last, number-kept, onAt, walking-on}
 
 fewer : (to t u m : ℕ) → to - t ≤ suc m → t < u → to - u ≤ m
 fewer to t u m h k = omega arith
@@ -81,7 +80,7 @@ module _ (s : Scene) (able : Able s) (t : Strides) (paced : Paced s t) where
 
   pub found-list : (w : Walk) (at : Side → ℕ) → Walking s w at → Forward t to w → w .t ≡ start (ray s) (array (vol s)) → voxels (entries t to w) ≡ listOf (vol s) (ray s)
   found-list w at on f e =
-      list-is (vol s) (ray s) (starts-apart s able) (voxels (entries t to w))
+      list-is (vol s) (ray s) (starts-apart (vol s) (scene-rise s) (ray s)) (voxels (entries t to w))
       (walk-all (λ w at es. (vs : List ℕ) → Until (w .t) vs → Ends (vs ++ voxels es)) (λ w at on b h. list-last w at on b h) (λ w at on h es. list-more w at on h es)
       w at on f [] (none-yet _ _ _ (w .t) (λ m i p. omega (arith, start-late s able m i))))
 

@@ -1,15 +1,14 @@
 -- The frame of a scene from what its axes say. Assumes nothing.
-use Prim.Native.Nat.{ℕ, _*_, _≤_, _<_, min, max}
-use mathlib.Core.Path.{_≡_, refl, sym, ap, _∙_}
+use Prim.Native.Nat.{ℕ, _*_, min, max}
+use mathlib.Core.Path.{_≡_, refl}
 use mathlib.Core.Bool.{Bool, true, false, _&&_, _||_, not}
 use lib.Dec.{ltb, leb}
 use Rattle.axis.specs.Leg.{factor}
 use Rattle.axis.proofs.Flag.{lt-not-le}
-use Rattle.ray.specs.Length.{Side, X, Y, Z, leg, rest, dOf, array, start, stop, holds, misses}
+use Rattle.ray.specs.Length.{Side, X, Y, Z, leg, rest, array, start, stop, holds, misses}
 use Rattle.walk.specs.declared.line.Scene.{Scene}
 use Rattle.walk.specs.declared.reach.Reach.{Reach}
-use Rattle.walk.specs.declared.plan.Frame.{Frame}
-use Rattle.walk.specs.Scene.{line, volumeOf, rayOf}
+use Rattle.walk.specs.Scene.{volumeOf, rayOf}
 use Rattle.walk.specs.Plan.{Reached, restOf, Framed}
 
 -- not missed: the window is not empty, and the array holds the ray

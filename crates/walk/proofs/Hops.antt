@@ -3,13 +3,12 @@ use Prim.Native.Nat.{ℕ, zero, suc, _+_, _-_, _*_, _%_, _^_, _≤_, _<_}
 use mathlib.Core.Path.{_≡_, refl, sym, ap, _∙_}
 use mathlib.Core.Bool.{Bool, true, false, cond}
 use native.Mathlib.Omega.{arith}
-use native.Mathlib.Nat.{mod-eq-of-lt, add-mod-right, add-mul, suc-mul, one-mul, mul-le-mul, mul-assoc, mul-le-mul-right}
-use lib.Dec.{eqb}
+use native.Mathlib.Nat.{mod-eq-of-lt, add-mod-right, add-mul, suc-mul, one-mul, mul-le-mul, mul-assoc}
 use Rattle.ray.specs.Length.{Side, X, Y, Z, Volume}
 use Rattle.walk.specs.Plan.{unit}
-use Rattle.walk.proofs.Units.{Way, up, down, still}
+use Rattle.ray.proofs.Way.{Way, up, down, still}
 use Rattle.walk.proofs.Stretch.{onward}
-use Rattle.walk.proofs.Numbers.{number}
+use Rattle.ray.proofs.Places.{number}
 
 -- what the code adds for one voxel on
 abbrev pub Jump : Way → ℕ → ℕ → Type 0

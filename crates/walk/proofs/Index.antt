@@ -1,12 +1,13 @@
 -- The voxel of an axis that holds a tick is found by a division. Assumes nothing.
-use Prim.Native.Nat.{ℕ, _+_, _-_, _*_, _/_, _^_, _≤_, _<_}
-use mathlib.Core.Path.{_≡_, refl, sym, ap, _∙_}
+use Prim.Native.Nat.{ℕ, _+_, _*_, _/_, _≤_, _<_}
+use mathlib.Core.Path.{_≡_}
 use native.Mathlib.Omega.{arith}
 use native.Mathlib.Nat.{div-lt-iff-lt-mul, zero-mul}
 use Rattle.axis.specs.Leg.{enters, leaves}
 use Rattle.walk.specs.declared.line.Line.{Line}
 use Rattle.walk.specs.Scene.{legN, slabN, plane, Window, Within}
-use Rattle.walk.proofs.Units.{Way, up, down, still, Goes, enterBy, leaveBy, enters-is, leaves-is, held-by, by-held}
+use Rattle.ray.proofs.Way.{Way, Goes}
+use Rattle.walk.proofs.Units.{enterBy, leaveBy, enters-is, leaves-is, held-by, by-held}
 use Rattle.walk.proofs.Stretch.{plane-mono, units-le, ticks-le, depth, In, to-in, from-in, narrow, within}
 
 pub plane-zero : (a : Line) → plane a 0 ≡ a .b

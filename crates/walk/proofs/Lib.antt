@@ -4,7 +4,6 @@ pub mod StepIs
 pub mod Turns
 pub mod Three
 pub mod Stretch
-pub mod Numbers
 pub mod Scenes
 pub mod Hops
 pub mod Walking

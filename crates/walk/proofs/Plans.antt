@@ -1,29 +1,28 @@
 -- A plan of a scene that is hit: its walk is walking, and so its entries are the list. Assumes nothing.
-use Prim.Native.Nat.{ℕ, _+_, _-_, _*_, _^_, _≤_, _<_, min}
-use mathlib.Core.Path.{_≡_, refl, sym, ap, _∙_, subst}
-use mathlib.Core.Bool.{Bool, true, false, _||_, not}
+use Prim.Native.Nat.{ℕ, _+_, _*_, _^_, _≤_, _<_, min}
+use mathlib.Core.Path.{_≡_, refl, sym, ap, _∙_}
+use mathlib.Core.Bool.{true, false, _||_, not}
 use mathlib.Core.List.{map}
 use native.Mathlib.Omega.{arith}
-use native.Mathlib.Nat.{le-antisymm, le-of-eq, le-trans, lt-of-lt-of-le, lt-of-le-of-lt, mul-pos, add-mul, mul-assoc}
+use native.Mathlib.Nat.{le-antisymm, le-of-eq, le-trans, lt-of-lt-of-le, lt-of-le-of-lt, mul-pos}
 use borrow.Author.Tests.{leb-false, not-true, not-false}
 use lib.Dec.{leb}
 use Rattle.axis.specs.Leg.{factor, held, enters, leaves}
-use Rattle.axis.proofs.Flag.{or-left, or-right, and-left, and-right}
-use Rattle.ray.specs.Length.{Side, X, Y, Z, leg, rest, dOf, array, holds, start, stop, misses, partOf, listOf, total, crosses, crossedOf}
-use Rattle.ray.proofs.Total.{total-same}
+use Rattle.axis.proofs.Flag.{or-left, or-right}
+use Rattle.ray.specs.Length.{Side, X, Y, Z, leg, rest, dOf, array, holds, start, stop, misses, partOf, crosses, crossedOf}
 use Rattle.walk.specs.declared.line.Scene.{Scene}
 use Rattle.walk.specs.declared.steps.Walk.{Walk}
 use Rattle.walk.specs.declared.steps.Strides.{Strides}
 use Rattle.walk.specs.declared.plan.Frame.{Frame}
-use Rattle.walk.specs.declared.plan.Plan.{Plan}
 use Rattle.walk.specs.Scene.{legN, slabN, plane, line, volumeOf, rayOf, Able, Window, Within}
-use Rattle.walk.specs.Model.{leaveOf, stepOf, jumpOf, soonest, Forward}
-use Rattle.walk.specs.Plan.{crossAt, crossedOn, restOf, Framed, unit, Strided, Begun, Planned}
-use Rattle.walk.proofs.Units.{Way, up, down, still, Goes, enters-is, leaves-is, held-by}
-use Rattle.walk.proofs.Three.{most, least, most-le, le-most, least-le, most-mono}
+use Rattle.walk.specs.Model.{leaveOf, stepOf, jumpOf, Forward}
+use Rattle.walk.specs.Plan.{crossedOn, restOf, Framed, unit, Strided, Begun, Planned}
+use Rattle.ray.proofs.Way.{Way, up, down, still, Goes}
+use Rattle.walk.proofs.Units.{enters-is, leaves-is, held-by}
+use Rattle.walk.proofs.Three.{most-le, le-most, least-le, most-mono}
 use Rattle.walk.proofs.Stretch.{plane-mono, enter-whole}
 use Rattle.walk.proofs.Sizes.{two-sizes, three-sizes, factor-size}
-use Rattle.walk.proofs.Scenes.{way, going, leg-is, enter, leave, start-array, rest-some, all-held, d-is}
+use Rattle.walk.proofs.Scenes.{way, going, leg-is, enter, leave, start-array, rest-some, all-held}
 use Rattle.walk.proofs.Hops.{Jump}
 use Rattle.walk.proofs.Walking.{Paced, Walking, soon-later}
 use Rattle.walk.proofs.Found.{found-list, found-parts}

@@ -1,17 +1,19 @@
 -- ray's definitions at a scene: starts, stops and parts of its voxels by the stretches on each axis. Assumes nothing.
-use Prim.Native.Nat.{ℕ, zero, suc, _+_, _-_, _*_, _≤_, _<_, min, max}
-use mathlib.Core.Path.{_≡_, refl, sym, ap, _∙_}
+use Prim.Native.Nat.{ℕ, _+_, _-_, _*_, _≤_, _<_, min}
+use mathlib.Core.Path.{_≡_, refl, ap, _∙_}
 use mathlib.Core.Bool.{Bool, true, false, _&&_, cond}
 use native.Mathlib.Omega.{arith}
 use native.Mathlib.Nat.{mul-pos, mul-comm, mul-assoc, mul-left-comm}
-use Rattle.axis.specs.Leg.{Leg, factor, enters, leaves, held}
-use Rattle.axis.proofs.Flag.{and-left, and-right, off-or-on}
+use Rattle.axis.specs.Leg.{factor, enters, leaves, held}
+use borrow.Author.Tests.{le-leb}
+use Rattle.axis.proofs.Flag.{and-left, and-right}
+use Rattle.ray.proofs.Planes.{Rise}
 use Rattle.ray.specs.declared.Ray.{Ray}
-use Rattle.ray.specs.Length.{Side, X, Y, Z, leg, rest, dOf, Volume, count, array, place, voxel, holds, start, stop, partOf}
-use Rattle.walk.specs.declared.line.Line.{Line}
+use Rattle.ray.specs.Length.{Side, X, Y, Z, leg, rest, dOf, Volume, array, place, voxel, holds, start, stop, partOf}
 use Rattle.walk.specs.declared.line.Scene.{Scene}
-use Rattle.walk.specs.Scene.{legN, slabN, plane, line, volumeOf, rayOf, Sized, Able}
-use Rattle.walk.proofs.Units.{Way, up, down, still, Goes, goes, factorBy, enterBy, leaveBy, HeldBy, factor-is, factor-some, enters-is, leaves-is, held-by, by-held}
+use Rattle.walk.specs.Scene.{legN, slabN, plane, line, volumeOf, rayOf}
+use Rattle.ray.proofs.Way.{Way, Goes, way as goes}
+use Rattle.walk.proofs.Units.{HeldBy, factor-is, factor-some, enters-is, leaves-is, held-by, by-held}
 use Rattle.walk.proofs.Three.{most, least, most-same, least-same}
 use Rattle.walk.proofs.Stretch.{plane-mono, enterAt, leaveAt, HeldAt}
 
@@ -32,6 +34,9 @@ module _ (s : Scene) where
   leg-is X = refl
   leg-is Y = refl
   leg-is Z = refl
+
+  pub scene-rise : Rise vol
+  scene-rise o i h = le-leb (plane (line s o) i) (plane (line s o) (i + 1)) (plane-mono (line s o) (omega arith))
 
   -- where the ray comes in and goes out between two planes of an axis, in ticks
   abbrev pub enter : Side → ℕ → ℕ → ℕ

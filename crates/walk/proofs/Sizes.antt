@@ -1,12 +1,13 @@
 -- Every product of a scene's numbers fits 64 bits. Assumes nothing.
-use Prim.Native.Nat.{ℕ, _+_, _-_, _*_, _^_, _≤_, _<_}
+use Prim.Native.Nat.{ℕ, _*_, _^_, _≤_, _<_}
 use mathlib.Core.Path.{_≡_, sym, _∙_}
 use native.Mathlib.Omega.{arith}
 use native.Mathlib.Nat.{mul-le-mul, mul-one}
 use Rattle.axis.specs.Leg.{factor, enters, leaves}
 use Rattle.walk.specs.declared.line.Line.{Line}
 use Rattle.walk.specs.Scene.{legN, slabN, plane, Sized}
-use Rattle.walk.proofs.Units.{Way, up, down, still, Goes, goes, factorBy, enterBy, leaveBy, factor-is, enters-is, leaves-is}
+use Rattle.ray.proofs.Way.{Way, up, down, still, way as goes, factorBy}
+use Rattle.walk.proofs.Units.{enterBy, leaveBy, factor-is, enters-is, leaves-is}
 use Rattle.walk.proofs.Stretch.{plane-mono}
 
 pub two-sizes : {f g : ℕ} → f ≤ 2 ^ 20 → g ≤ 2 ^ 20 → f * g ≤ 2 ^ 40

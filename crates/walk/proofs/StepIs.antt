@@ -1,5 +1,5 @@
 -- One turn of the model. Assumes nothing.
-use Prim.Native.Nat.{ℕ, _+_, _^_, _%_, _≤_, _<_, min}
+use Prim.Native.Nat.{ℕ, _+_, _^_, _%_}
 use mathlib.Core.Path.{_≡_, refl}
 use mathlib.Core.Bool.{Bool, cond}
 use lib.Dec.{eqb}

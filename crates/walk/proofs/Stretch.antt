@@ -1,14 +1,15 @@
 -- One axis in ticks: the stretch of the ray in a voxel, the next voxel, and that a tick lies in one voxel only. Ticks are units
 -- times c, the rest of D. Assumes nothing.
 use Prim.Native.Nat.{ℕ, zero, suc, _+_, _-_, _*_, _/_, _≤_, _<_}
-use mathlib.Core.Path.{_≡_, refl, sym, ap, _∙_}
+use mathlib.Core.Path.{_≡_, refl, ap, _∙_}
 use mathlib.Core.Logic.{⊎-elim}
 use native.Mathlib.Omega.{arith}
 use native.Mathlib.Decide.{decLt}
 use native.Mathlib.Nat.{mul-le-mul-right, lt-of-mul-lt-mul-right, add-mul, suc-mul, zero-mul, div-lt-iff-lt-mul, div-mul-le-self}
 use Rattle.walk.specs.declared.line.Line.{Line}
 use Rattle.walk.specs.Scene.{plane}
-use Rattle.walk.proofs.Units.{Way, up, down, still, Goes, enterBy, leaveBy, HeldBy, enter-within, leave-within, apart}
+use Rattle.ray.proofs.Way.{Way, up, down, still}
+use Rattle.walk.proofs.Units.{enterBy, leaveBy, HeldBy, enter-within, leave-within, apart}
 
 pub plane-next : (a : Line) (i : ℕ) → plane a (i + 1) ≡ plane a i + a .d
 plane-next a i = omega (arith, add-mul i 1 (a .d), one-time (a .d))

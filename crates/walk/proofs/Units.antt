@@ -1,38 +1,20 @@
 -- One axis in its own units, by the way the ray goes on it: what ray's definitions come to where coordinates have no sign.
 -- Every law below has a clause for each way. Assumes nothing.
-use Prim.Native.Nat.{ℕ, zero, suc, _+_, _-_, _*_, _≤_, _<_, min, max}
+use Prim.Native.Nat.{ℕ, zero, suc, _+_, _-_, _*_, _≤_, _<_}
 use mathlib.Core.Path.{_≡_, refl, sym, ap, _∙_}
-use mathlib.Core.Bool.{Bool, true, false, _&&_, _||_, cond}
+use mathlib.Core.Bool.{true, false, _&&_}
 use mathlib.Core.Logic.{_⊎_, inl, inr}
 use native.Mathlib.Omega.{arith}
 use native.Mathlib.Decide.{decLt}
 use native.Mathlib.Nat.{zero-mul, one-mul}
 use lib.Dec.{ltb, leb}
-use lib.IntN.{ℤ, pos, natAbs, subℕ, _-ℤ_}
-use borrow.Author.Tests.{lt-ltb, le-ltb, le-leb, lt-leb, ltb-true, leb-true}
-use Rattle.axis.specs.Leg.{moving, factor, run, held, enters, leaves, natural}
+use lib.IntN.{pos, natAbs, _-ℤ_}
+use borrow.Author.Tests.{lt-ltb, le-ltb, le-leb, ltb-true, leb-true}
+use Rattle.axis.specs.Leg.{moving, factor, run, held, enters, leaves}
 use Rattle.axis.proofs.Flag.{and-left, and-right}
+use Rattle.ray.proofs.Way.{Way, up, down, still, Goes, factorBy}
 use Rattle.axis.proofs.Shift.{natural-diff, sub-lt, sub-ge}
 use Rattle.walk.specs.Scene.{legN, slabN}
-
-pub data Way : Type 0 where
-  up : Way
-  down : Way
-  still : Way
-
--- what the way says of the two ends
-abbrev pub Goes : Way → ℕ → ℕ → Type 0
-Goes up p q = p < q
-Goes down p q = q < p
-Goes still p q = p ≡ q
-
-pub goes : (p q : ℕ) → (w : Way) × Goes w p q
-goes p q = elim (decLt p q) [ yes h ↦ (up, h) | no h ↦ elim (decLt q p) [ yes k ↦ (down, k) | no k ↦ (still, omega arith) ] ]
-
-abbrev pub factorBy : Way → ℕ → ℕ → ℕ
-factorBy up p q = q - p
-factorBy down p q = p - q
-factorBy still p q = 1
 
 abbrev pub enterBy : Way → ℕ → ℕ → ℕ → ℕ
 enterBy up p lo hi = lo - p

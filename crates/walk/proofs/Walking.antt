@@ -1,10 +1,9 @@
 -- What is known of the walk at each turn: on every axis it is in a voxel of the array, since a tick not later than now and until a
 -- tick later than now, and on one axis since now. Assumes nothing.
-use Prim.Native.Nat.{ℕ, zero, suc, _+_, _-_, _*_, _%_, _^_, _≤_, _<_, min, max}
+use Prim.Native.Nat.{ℕ, _+_, _-_, _*_, _%_, _^_, _≤_, _<_, min}
 use mathlib.Core.Path.{_≡_, refl, sym, ap, _∙_}
-use mathlib.Core.Bool.{Bool, true, false, cond, true≢false}
+use mathlib.Core.Bool.{Bool, true, false, cond}
 use native.Mathlib.Omega.{arith}
-use native.Mathlib.Decide.{ℕ-discrete, decLe, decLt}
 use native.Mathlib.Nat.{le-antisymm, le-of-eq, le-trans, lt-of-lt-of-le, lt-of-le-of-lt, mul-pos, mod-eq-of-lt}
 use lib.Dec.{eqb}
 use borrow.Author.Tests.{eq-eqb, eqb-true, eqb-false}
@@ -15,11 +14,12 @@ use Rattle.walk.specs.declared.steps.Strides.{Strides}
 use Rattle.walk.specs.Scene.{line, Able}
 use Rattle.walk.specs.Model.{leaveOf, stepOf, jumpOf, soonest, stepped}
 use Rattle.walk.specs.Plan.{unit}
-use Rattle.walk.proofs.Units.{Way, up, down, still, HeldBy}
+use Rattle.ray.proofs.Way.{Way, up, down, still}
+use Rattle.walk.proofs.Units.{HeldBy}
 use Rattle.walk.proofs.Three.{most, least, most-le, le-most, least-le, least-one, lt-least, least-mono, most-mono, most-same, least-same}
-use Rattle.walk.proofs.Stretch.{onward, Next, next, enter-whole, leave-whole, one-voxel, HeldAt}
-use Rattle.walk.proofs.Numbers.{number, place-number, number-below, place-below, number-place}
-use Rattle.walk.proofs.Scenes.{vol, ray, way, enter, leave, Held, start-voxel, stop-voxel, start-array, stop-array, Met, met, part-met, rest-some}
+use Rattle.walk.proofs.Stretch.{onward, Next, next, enter-whole, leave-whole, one-voxel}
+use Rattle.ray.proofs.Places.{number, place-number, number-below, place-below, place-same}
+use Rattle.walk.proofs.Scenes.{vol, ray, way, enter, leave, Held, start-voxel, stop-voxel, start-array, stop-array, met, part-met, rest-some}
 use Rattle.walk.proofs.Hops.{Jump, Left, number-small, all-over}
 
 -- the strides are those of the scene
@@ -43,14 +43,11 @@ cut-le : (d l : ℕ) → min d l ≤ d
 cut-le d l = omega arith
 
 module _ (s : Scene) (able : Able s) where
-  some-voxels : (o : Side) → 0 < vol s o .n
-  some-voxels o = able .sized o .some
-
   -- every voxel's stretch lies within the array's
   pub start-late : (m : ℕ) → m < count (vol s) → start (ray s) (array (vol s)) ≤ start (ray s) (voxel (vol s) m)
   start-late m h =
       rw (start-array s, start-voxel s m)
-      (most-mono _ _ (λ o. enter-whole (way s o) (line s o) (rest (ray s) o) (place (vol s) m o) (place-below (vol s) some-voxels m h o)))
+      (most-mono _ _ (λ o. enter-whole (way s o) (line s o) (rest (ray s) o) (place (vol s) m o) (place-below (vol s) m h o)))
 
   pub stop-soon : (m : ℕ) → m < count (vol s) → stop (ray s) (voxel (vol s) m) ≤ stop (ray s) (array (vol s))
   stop-soon m h =
@@ -58,7 +55,7 @@ module _ (s : Scene) (able : Able s) where
       (omega (
         arith,
         least-mono (λ o. leave s o (place (vol s) m o) (place (vol s) m o + 1)) (λ o. leave s o 0 (line s o .n))
-            (λ o. leave-whole (way s o) (line s o) (rest (ray s) o) (place (vol s) m o) (place-below (vol s) some-voxels m h o)),
+            (λ o. leave-whole (way s o) (line s o) (rest (ray s) o) (place (vol s) m o) (place-below (vol s) m h o)),
       ))
 
   -- a tick within a voxel that has a part is within its stretch on every axis
@@ -75,18 +72,11 @@ module _ (s : Scene) (able : Able s) where
   }
 
   -- two voxels with a part that a tick is within are one
-  pub one-through : (m n t : ℕ) → m < count (vol s) → n < count (vol s) → Through m t → Through n t → m ≡ n
-  one-through m n t hm hn a b =
+  one-through : (m n t : ℕ) → Through m t → Through n t → m ≡ n
+  one-through m n t a b =
       let same : (o : Side) → place (vol s) m o ≡ place (vol s) n o = λ o. one-voxel (way s o) (line s o) (rest (ray s) o) (able .sized o .wide)
       (a .whole o) (b .whole o) (a .since o) (a .until o) (b .since o) (b .until o) in
-      sym (number-place (vol s) some-voxels m hm) ∙ rw (same X, same Y, same Z) refl ∙ number-place (vol s) some-voxels n hn
-
-  pub starts-apart : (m n : ℕ) → m < count (vol s) → n < count (vol s) → 0 < partOf (vol s) (ray s) m → 0 < partOf (vol s) (ray s) n
-      → start (ray s) (voxel (vol s) m) ≡ start (ray s) (voxel (vol s) n) → m ≡ n
-  starts-apart m n hm hn pm pn e =
-      let a = met s m pm .proper in
-      let b = met s n pn .proper in
-      one-through m n (start (ray s) (voxel (vol s) m)) hm hn (through m _ pm (omega arith) a) (through n _ pn (omega arith) (omega arith))
+      place-same (vol s) m n same
 
   -- ---- the voxel that the walk is in
   module _ (w : Walk) (at : Side → ℕ) (on : Walking s w at) where
@@ -145,7 +135,7 @@ module _ (s : Scene) (able : Able s) where
     pub here-only : (m : ℕ) → m < count (vol s) → 0 < partOf (vol s) (ray s) m → w .t ≤ start (ray s) (voxel (vol s) m)
         → start (ray s) (voxel (vol s) m) < soonest w → m ≡ here
     here-only m h p a b =
-        one-through m here (start (ray s) (voxel (vol s) m)) h here-below (through m _ p (omega arith) (met s m p .proper)) (through-here _ a b)
+        one-through m here (start (ray s) (voxel (vol s) m)) (through m _ p (omega arith) (met s m p .proper)) (through-here _ a b)
 
     pub number-kept : w .v % 2 ^ 32 ≡ here
     number-kept = rw (on .numbers) (mod-eq-of-lt (omega (arith, number-small (vol s) (λ o. able .sized o .n-size) at (on .inside))))

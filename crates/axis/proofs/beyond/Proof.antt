@@ -1,8 +1,6 @@
 use borrow.Author.Tests.{eq-eqb, ne-eqb}
 use Rattle.axis.proofs.beyond.Statement.{statement}
 use Rattle.axis.proofs.beyond.Tie as tie
-use Rattle.axis.proofs.beyond.Reads as reads
-use Rattle.axis.proofs.beyond.Lts as lts
 
 returns : tie.Need-returns
 returns c = rw (eq-eqb _ _ (c .if1 .taken))

@@ -1,11 +1,11 @@
-use Prim.Native.Nat.{ℕ, suc, _+_, _≤_, _<_}
+use Prim.Native.Nat.{ℕ, suc, _+_, _≤_}
 use mathlib.Core.Path.{_≡_, refl, sym, ap, _∙_}
-use mathlib.Core.Bool.{Bool, true, false, true≢false}
+use mathlib.Core.Bool.{true, false, true≢false}
 use native.Mathlib.Omega.{arith}
 use native.Mathlib.Decide.{decLt}
 use lib.IntN.{ℤ, pos, negsuc, natAbs, subℕ, _+ℤ_}
 use lib.Signed.{mag, ltZ, nonNeg}
-use lib.Dec.{T, ltb}
+use lib.Dec.{T}
 use borrow.Author.Tests.{lt-ltb, le-ltb}
 use mir.Syntax.{w32, w64}
 use mir.Val.{Fits, SFits, toZ, ofZ}
@@ -14,8 +14,6 @@ use Rattle.axis.specs.Leg.{natural}
 use borrow.Author.Needs.{needs}
 use Rattle.axis.proofs.raised.Statement.{statement}
 use Rattle.axis.proofs.raised.Tie as tie
-use Rattle.axis.proofs.raised.Reads as reads
-use Rattle.axis.proofs.raised.Lts as lts
 
 widen : (z : ℤ) → SFits w32 z → SFits w64 z
 widen z f = record { sfits = omega (arith, f .sfits) }

@@ -3,9 +3,6 @@ use lib.ListN.{length}
 use borrow.Author.Needs.{needs}
 use Rattle.bench_rays.proofs.places.Statement.{statement}
 use Rattle.bench_rays.proofs.places.Tie as tie
-use Rattle.bench_rays.proofs.places.Reads as reads
-use Rattle.bench_rays.proofs.places.Lts as lts
-use Rattle.bench_rays.proofs.entry.Reads as entry-reads
 
 abbrev Inv-loop : tie.InvT-loop
 Inv-loop voxels parts i₀ i = i ≤ length voxels

@@ -1,13 +1,10 @@
-use mathlib.Core.Path.{_≡_, sym, _∙_}
+use mathlib.Core.Path.{sym, _∙_}
 use borrow.Author.Tests.{eq-eqb, ne-eqb}
 use mir.Syntax.{w32}
 use mir.ValLaws.{toZ-ofZ}
 use borrow.Author.Needs.{needs}
 use Rattle.axis.proofs.Axis.checked.Statement.{statement}
 use Rattle.axis.proofs.Axis.checked.Tie as tie
-use Rattle.axis.proofs.Axis.checked.Reads as reads
-use Rattle.axis.proofs.Axis.checked.Lts as lts
-use Rattle.axis.proofs.Axis.code.Reads as code-reads
 
 code-requires : tie.Need-code-requires
 code-requires c κs = search needs

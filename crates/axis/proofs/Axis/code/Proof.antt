@@ -1,11 +1,7 @@
-use mathlib.Core.Path.{_≡_, sym, _∙_}
+use mathlib.Core.Path.{sym, _∙_}
 use borrow.Author.Needs.{needs}
 use Rattle.axis.proofs.Axis.code.Statement.{statement}
 use Rattle.axis.proofs.Axis.code.Tie as tie
-use Rattle.axis.proofs.Axis.code.Reads as reads
-use Rattle.axis.proofs.Axis.code.Lts as lts
-use Rattle.axis.proofs.Axis.planes_out.Reads as planes-out-reads
-use Rattle.axis.proofs.beyond.Reads as beyond-reads
 
 beyond-requires : tie.Need-beyond-requires
 beyond-requires c κs = search needs

@@ -3,8 +3,6 @@ use mir.ValLaws.{toZ-ofZ}
 use borrow.Author.Needs.{needs}
 use Rattle.axis.proofs.Axis.holds.Statement.{statement}
 use Rattle.axis.proofs.Axis.holds.Tie as tie
-use Rattle.axis.proofs.Axis.holds.Reads as reads
-use Rattle.axis.proofs.Axis.holds.Lts as lts
 
 cast-top : tie.Need-cast-top
 cast-top c = search needs

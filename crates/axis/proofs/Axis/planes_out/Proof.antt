@@ -12,10 +12,6 @@ use Rattle.axis.proofs.Bounds.{far-inside, inside-most}
 use borrow.Author.Needs.{needs}
 use Rattle.axis.proofs.Axis.planes_out.Statement.{statement}
 use Rattle.axis.proofs.Axis.planes_out.Tie as tie
-use Rattle.axis.proofs.Axis.planes_out.Reads as reads
-use Rattle.axis.proofs.Axis.planes_out.Lts as lts
-use Rattle.axis.proofs.Axis.holds.Reads as holds-reads
-use Rattle.axis.proofs.raised.Reads as raised-reads
 
 area : (c : tie.After-struct-known2) → c .before .before .before .before .before .before .args .self .n * c .before .before .before .before .before .before .args .self .d ≤ 4294967295 * 4294967295
 area c = mul-le-mul {n₂ = 4294967295} {m₂ = 4294967295} (omega arith) (omega arith)

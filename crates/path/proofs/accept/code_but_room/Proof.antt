@@ -1,15 +1,9 @@
-use Prim.Native.Nat.{ℕ}
-use mathlib.Core.Path.{_≡_, sym, _∙_}
+use mathlib.Core.Path.{sym, _∙_}
 use native.Mathlib.Omega.{arith}
 use Rattle.path.proofs.Accepting.{at-grid, at-densities, at-ends, at-lists, at-room}
 use borrow.Author.Needs.{needs}
 use Rattle.path.proofs.accept.code_but_room.Statement.{statement}
 use Rattle.path.proofs.accept.code_but_room.Tie as tie
-use Rattle.path.proofs.accept.code_but_room.Reads as reads
-use Rattle.path.proofs.accept.code_but_room.Lts as lts
-use Rattle.path.proofs.accept.voxels_of.Reads as voxels-of-reads
-use Rattle.ray.proofs.check.ends_code.Reads as ends-code-reads
-use Rattle.ray.proofs.check.grid_code.Reads as grid-code-reads
 
 grid-code-requires : tie.Need-grid-code-requires
 grid-code-requires c κs = search needs

@@ -10,8 +10,6 @@ use Rattle.path.proofs.Accepting.{axisOf, axes-ok}
 use borrow.Author.Needs.{needs}
 use Rattle.path.proofs.accept.voxels_of.Statement.{statement}
 use Rattle.path.proofs.accept.voxels_of.Tie as tie
-use Rattle.path.proofs.accept.voxels_of.Reads as reads
-use Rattle.path.proofs.accept.voxels_of.Lts as lts
 
 few : (g : Grid) → first (gridRows bench g) ≡ 0 → (o : Side) → axisOf g o .n ≤ 2 ^ 9
 few g h o = axes-ok bench g h o .few

@@ -1,5 +1,5 @@
-use Prim.Native.Nat.{ℕ, _+_, _<_}
-use mathlib.Core.Path.{_≡_, refl, _∙_}
+use Prim.Native.Nat.{_+_, _<_}
+use mathlib.Core.Path.{refl, _∙_}
 use mathlib.Core.Logic.{⊎-elim}
 use native.Mathlib.Omega.{arith}
 use borrow.Author.Tests.{ne-eqb, lt-ltb}
@@ -10,11 +10,6 @@ use Rattle.path.proofs.Appending.{tail-answers}
 use borrow.Author.Needs.{needs}
 use Rattle.path.proofs.calls.append.Statement.{statement}
 use Rattle.path.proofs.calls.append.Tie as tie
-use Rattle.path.proofs.calls.append.Reads as reads
-use Rattle.path.proofs.calls.append.Lts as lts
-use Rattle.path.proofs.accept.code_but_room.Reads as code-but-room-reads
-use Rattle.path.proofs.calls.refusal.Reads as refusal-reads
-use Rattle.path.proofs.calls.trace.Reads as trace-reads
 
 mul-trace : tie.Need-mul-trace
 mul-trace c = search needs

@@ -6,9 +6,6 @@ use Rattle.walk.specs.Model.{entries}
 use borrow.Author.Needs.{needs}
 use Rattle.path.proofs.calls.fits.Statement.{statement}
 use Rattle.path.proofs.calls.fits.Tie as tie
-use Rattle.path.proofs.calls.fits.Reads as reads
-use Rattle.path.proofs.calls.fits.Lts as lts
-use Rattle.walk.proofs.entries.count.Reads as count-reads
 
 count-requires : tie.Need-count-requires
 count-requires c κs = search needs

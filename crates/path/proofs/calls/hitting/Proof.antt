@@ -8,14 +8,6 @@ use Rattle.path.proofs.Hits.{from-to, number, few, within-v, within-p, 
 use borrow.Author.Needs.{needs}
 use Rattle.path.proofs.calls.hitting.Statement.{statement}
 use Rattle.path.proofs.calls.hitting.Tie as tie
-use Rattle.path.proofs.calls.hitting.Reads as reads
-use Rattle.path.proofs.calls.hitting.Lts as lts
-use Rattle.path.proofs.calls.fits.Reads as fits-reads
-use Rattle.path.proofs.calls.refusal.Reads as refusal-reads
-use Rattle.path.proofs.scene.squared_of.Reads as squared-of-reads
-use Rattle.path.proofs.weigh.weigh.Reads as weigh-reads
-use Rattle.walk.proofs.entries.fill.Reads as fill-reads
-use Rattle.walk.proofs.plan.plan_of.Reads as plan-of-reads
 
 plan-of-requires : tie.Need-plan-of-requires
 plan-of-requires c κs = search needs

@@ -1,5 +1,5 @@
 use Prim.Native.Nat.{ℕ, _+_}
-use mathlib.Core.Path.{_≡_, refl, sym, ap, _∙_}
+use mathlib.Core.Path.{refl, sym, ap, _∙_}
 use mathlib.Core.Bool.{cond}
 use borrow.Author.Tests.{ne-eqb, not-false}
 use lib.Dec.{eqb, ltb}
@@ -9,14 +9,6 @@ use Rattle.path.proofs.Answering.{told, refuses, able-so, d-so, count-s
 use borrow.Author.Needs.{needs}
 use Rattle.path.proofs.calls.trace.Statement.{statement}
 use Rattle.path.proofs.calls.trace.Tie as tie
-use Rattle.path.proofs.calls.trace.Reads as reads
-use Rattle.path.proofs.calls.trace.Lts as lts
-use Rattle.path.proofs.accept.code_but_room.Reads as code-but-room-reads
-use Rattle.path.proofs.calls.hitting.Reads as hitting-reads
-use Rattle.path.proofs.calls.refusal.Reads as refusal-reads
-use Rattle.path.proofs.scene.scene_of.Reads as scene-of-reads
-use Rattle.path.proofs.scene.squared_of.Reads as squared-of-reads
-use Rattle.walk.proofs.plan.frame_of.Reads as frame-of-reads
 
 code-but-room-requires : tie.Need-code-but-room-requires
 code-but-room-requires c κs = search needs

@@ -5,9 +5,6 @@ use mir.ValLaws.{toZ-ofZ}
 use borrow.Author.Needs.{needs}
 use Rattle.path.proofs.scene.line_of.Statement.{statement}
 use Rattle.path.proofs.scene.line_of.Tie as tie
-use Rattle.path.proofs.scene.line_of.Reads as reads
-use Rattle.path.proofs.scene.line_of.Lts as lts
-use Rattle.axis.proofs.raised.Reads as raised-reads
 
 raised-requires : tie.Need-raised-requires
 raised-requires c κs = search needs

@@ -4,9 +4,6 @@ use mir.Val.{toZ, ofZ}
 use borrow.Author.Needs.{needs}
 use Rattle.path.proofs.scene.scene_of.Statement.{statement}
 use Rattle.path.proofs.scene.scene_of.Tie as tie
-use Rattle.path.proofs.scene.scene_of.Reads as reads
-use Rattle.path.proofs.scene.scene_of.Lts as lts
-use Rattle.path.proofs.scene.line_of.Reads as line-of-reads
 
 line-of-requires : tie.Need-line-of-requires
 line-of-requires c κs = search needs

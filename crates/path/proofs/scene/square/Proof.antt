@@ -5,9 +5,6 @@ use Rattle.walk.proofs.Sizes.{two-sizes}
 use borrow.Author.Needs.{needs}
 use Rattle.path.proofs.scene.square.Statement.{statement}
 use Rattle.path.proofs.scene.square.Tie as tie
-use Rattle.path.proofs.scene.square.Reads as reads
-use Rattle.path.proofs.scene.square.Lts as lts
-use Rattle.walk.proofs.extremes.apart.Reads as apart-reads
 
 few : (c : tie.After-apart) → c .apart .result ≤ 2 ^ 20
 few c = omega (arith, c .apart .ensures, c .before .pre .0, c .before .pre .1)

@@ -3,9 +3,6 @@ use Rattle.ray.specs.Length.{X, Y, Z}
 use Rattle.walk.proofs.Units.{abs-gap}
 use Rattle.path.proofs.scene.squared_of.Statement.{statement}
 use Rattle.path.proofs.scene.squared_of.Tie as tie
-use Rattle.path.proofs.scene.squared_of.Reads as reads
-use Rattle.path.proofs.scene.squared_of.Lts as lts
-use Rattle.path.proofs.scene.square.Reads as square-reads
 
 square-requires : tie.Need-square-requires
 square-requires c κs = (c .pre .sized X .p-size, c .pre .sized X .q-size)

@@ -5,8 +5,6 @@ use lib.ListN.{length, getD}
 use Rattle.path.proofs.Weighing.{weighed-most, Weighing, none-weighed, all-weighed, fits, one-weighed}
 use Rattle.path.proofs.weigh.weigh.Statement.{statement}
 use Rattle.path.proofs.weigh.weigh.Tie as tie
-use Rattle.path.proofs.weigh.weigh.Reads as reads
-use Rattle.path.proofs.weigh.weigh.Lts as lts
 
 abbrev Inv-loop : tie.InvT-loop
 Inv-loop densities voxels parts sum₀ i₀ sum i = Weighing densities voxels parts sum i

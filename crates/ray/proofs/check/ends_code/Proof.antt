@@ -2,10 +2,6 @@ use mathlib.Core.Path.{sym, _∙_}
 use borrow.Author.Needs.{needs}
 use Rattle.ray.proofs.check.ends_code.Statement.{statement}
 use Rattle.ray.proofs.check.ends_code.Tie as tie
-use Rattle.ray.proofs.check.ends_code.Reads as reads
-use Rattle.ray.proofs.check.ends_code.Lts as lts
-use Rattle.ray.proofs.check.ends_differ.Reads as ends-differ-reads
-use Rattle.ray.proofs.check.ends_out.Reads as ends-out-reads
 
 ends-out-requires : tie.Need-ends-out-requires
 ends-out-requires c κs = search needs

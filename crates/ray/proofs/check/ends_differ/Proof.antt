@@ -4,10 +4,6 @@ use mir.Val.{toZ, ofZ}
 use borrow.Author.Needs.{needs}
 use Rattle.ray.proofs.check.ends_differ.Statement.{statement}
 use Rattle.ray.proofs.check.ends_differ.Tie as tie
-use Rattle.ray.proofs.check.ends_differ.Reads as reads
-use Rattle.ray.proofs.check.ends_differ.Lts as lts
-use Rattle.ray.proofs.check.leg_moves.Reads as leg-moves-reads
-use Rattle.ray.proofs.check.one_of.Reads as one-of-reads
 
 leg-moves-requires : tie.Need-leg-moves-requires
 leg-moves-requires c κs = search needs

@@ -4,10 +4,6 @@ use mir.Val.{toZ, ofZ}
 use borrow.Author.Needs.{needs}
 use Rattle.ray.proofs.check.ends_out.Statement.{statement}
 use Rattle.ray.proofs.check.ends_out.Tie as tie
-use Rattle.ray.proofs.check.ends_out.Reads as reads
-use Rattle.ray.proofs.check.ends_out.Lts as lts
-use Rattle.ray.proofs.check.leg_out.Reads as leg-out-reads
-use Rattle.ray.proofs.check.one_of.Reads as one-of-reads
 
 leg-out-requires : tie.Need-leg-out-requires
 leg-out-requires c κs = search needs

@@ -4,10 +4,6 @@ use Rattle.ray.proofs.Rows.{grid-least}
 use borrow.Author.Needs.{needs}
 use Rattle.ray.proofs.check.grid_code.Statement.{statement}
 use Rattle.ray.proofs.check.grid_code.Tie as tie
-use Rattle.ray.proofs.check.grid_code.Reads as reads
-use Rattle.ray.proofs.check.grid_code.Lts as lts
-use Rattle.axis.proofs.Axis.code.Reads as code-reads
-use Rattle.ray.proofs.check.lesser.Reads as lesser-reads
 
 code-requires : tie.Need-code-requires
 code-requires c κs = search needs

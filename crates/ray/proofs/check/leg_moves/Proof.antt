@@ -2,8 +2,6 @@ use mir.Syntax.{w32}
 use mir.ValLaws.{toZ-ofZ}
 use Rattle.ray.proofs.check.leg_moves.Statement.{statement}
 use Rattle.ray.proofs.check.leg_moves.Tie as tie
-use Rattle.ray.proofs.check.leg_moves.Reads as reads
-use Rattle.ray.proofs.check.leg_moves.Lts as lts
 
 returns : tie.Need-returns
 returns c =

@@ -4,9 +4,6 @@ use mir.ValLaws.{toZ-ofZ}
 use borrow.Author.Needs.{needs}
 use Rattle.ray.proofs.check.leg_out.Statement.{statement}
 use Rattle.ray.proofs.check.leg_out.Tie as tie
-use Rattle.ray.proofs.check.leg_out.Reads as reads
-use Rattle.ray.proofs.check.leg_out.Lts as lts
-use Rattle.axis.proofs.Axis.holds.Reads as holds-reads
 
 holds-requires : tie.Need-holds-requires
 holds-requires c κs = search needs

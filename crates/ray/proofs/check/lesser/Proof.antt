@@ -2,8 +2,6 @@ use borrow.Author.Tests.{eq-eqb, ne-eqb}
 use native.Mathlib.Omega.{arith}
 use Rattle.ray.proofs.check.lesser.Statement.{statement}
 use Rattle.ray.proofs.check.lesser.Tie as tie
-use Rattle.ray.proofs.check.lesser.Reads as reads
-use Rattle.ray.proofs.check.lesser.Lts as lts
 
 returns : tie.Need-returns
 returns c = rw (eq-eqb _ _ (c .if1 .taken))

@@ -6,9 +6,6 @@ use Rattle.walk.specs.Model.{soonest, stepped, entries}
 use Rattle.walk.proofs.Turns.{step-fits, step-tick, Counting, none-counted, counted-below, last-counted, one-counted}
 use Rattle.walk.proofs.entries.count.Statement.{statement}
 use Rattle.walk.proofs.entries.count.Tie as tie
-use Rattle.walk.proofs.entries.count.Reads as reads
-use Rattle.walk.proofs.entries.count.Lts as lts
-use Rattle.walk.proofs.steps.Walk.step.Reads as step-reads
 
 abbrev Inv-loop : tie.InvT-loop
 Inv-loop s to w₀ r₀ w r = Counting s to (entries s to w₀) w r

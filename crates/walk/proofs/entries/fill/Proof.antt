@@ -2,15 +2,12 @@ use Prim.Native.Nat.{_-_, _^_, _%_}
 use mathlib.Core.Path.{_≡_, ap, _∙_}
 use native.Mathlib.Omega.{arith}
 use borrow.Author.Needs.{needs}
-use lib.ListN.{length, length-set}
+use lib.ListN.{length-set}
 use Rattle.walk.specs.declared.steps.Walk.{Walk}
 use Rattle.walk.specs.Model.{soonest, stepped, entries}
 use Rattle.walk.proofs.Turns.{step-fits, step-tick, Filling, none-filled, place-v, place-p, counted-below, last-filled, one-filled}
 use Rattle.walk.proofs.entries.fill.Statement.{statement}
 use Rattle.walk.proofs.entries.fill.Tie as tie
-use Rattle.walk.proofs.entries.fill.Reads as reads
-use Rattle.walk.proofs.entries.fill.Lts as lts
-use Rattle.walk.proofs.steps.Walk.step.Reads as step-reads
 
 abbrev Inv-loop : tie.InvT-loop
 Inv-loop s to voxels₀ parts₀ w₀ r₀ voxels parts w r = Filling s to (entries s to w₀) w r voxels parts voxels₀ parts₀

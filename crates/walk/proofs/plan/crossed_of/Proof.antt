@@ -5,9 +5,6 @@ use Rattle.walk.proofs.Plans.{proper, windows, crossed-all}
 use borrow.Author.Needs.{needs}
 use Rattle.walk.proofs.plan.crossed_of.Statement.{statement}
 use Rattle.walk.proofs.plan.crossed_of.Tie as tie
-use Rattle.walk.proofs.plan.crossed_of.Reads as reads
-use Rattle.walk.proofs.plan.crossed_of.Lts as lts
-use Rattle.walk.proofs.line.Line.crossed.Reads as crossed-reads
 
 crossed-requires : tie.Need-crossed-requires
 crossed-requires c κs =

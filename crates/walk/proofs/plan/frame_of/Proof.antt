@@ -10,13 +10,6 @@ use Rattle.walk.proofs.Frames.{framed}
 use borrow.Author.Needs.{needs}
 use Rattle.walk.proofs.plan.frame_of.Statement.{statement}
 use Rattle.walk.proofs.plan.frame_of.Tie as tie
-use Rattle.walk.proofs.plan.frame_of.Reads as reads
-use Rattle.walk.proofs.plan.frame_of.Lts as lts
-use Rattle.walk.proofs.extremes.least.Reads as least-reads
-use Rattle.walk.proofs.extremes.most.Reads as most-reads
-use Rattle.walk.proofs.line.Line.factor.Reads as factor-reads
-use Rattle.walk.proofs.line.Line.reach.Reads as reach-reads
-use Rattle.walk.proofs.plan.hits.Reads as hits-reads
 
 small : (a : Line) {f : ℕ} → Sized a → f ≡ factor (legN (a .p) (a .q)) → f ≤ 2 ^ 20
 small a h e = rw e (factor-size a h)

@@ -1,8 +1,6 @@
 use borrow.Author.Tests.{lt-ltb, le-ltb}
 use Rattle.walk.proofs.plan.hits.Statement.{statement}
 use Rattle.walk.proofs.plan.hits.Tie as tie
-use Rattle.walk.proofs.plan.hits.Reads as reads
-use Rattle.walk.proofs.plan.hits.Lts as lts
 
 returns : tie.Need-returns
 returns c = rw (lt-ltb _ _ (c .before .before .if1 .taken), c .before .if2 .taken, c .if3 .taken)

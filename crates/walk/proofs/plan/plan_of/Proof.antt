@@ -2,11 +2,6 @@ use Rattle.walk.proofs.Plans.{planned}
 use borrow.Author.Needs.{needs}
 use Rattle.walk.proofs.plan.plan_of.Statement.{statement}
 use Rattle.walk.proofs.plan.plan_of.Tie as tie
-use Rattle.walk.proofs.plan.plan_of.Reads as reads
-use Rattle.walk.proofs.plan.plan_of.Lts as lts
-use Rattle.walk.proofs.plan.crossed_of.Reads as crossed-of-reads
-use Rattle.walk.proofs.plan.strides_of.Reads as strides-of-reads
-use Rattle.walk.proofs.plan.walk_of.Reads as walk-of-reads
 
 walk-of-requires : tie.Need-walk-of-requires
 walk-of-requires c κs = search needs

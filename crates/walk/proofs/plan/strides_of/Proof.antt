@@ -7,9 +7,6 @@ use Rattle.walk.proofs.Plans.{few, strided}
 use borrow.Author.Needs.{needs}
 use Rattle.walk.proofs.plan.strides_of.Statement.{statement}
 use Rattle.walk.proofs.plan.strides_of.Tie as tie
-use Rattle.walk.proofs.plan.strides_of.Reads as reads
-use Rattle.walk.proofs.plan.strides_of.Lts as lts
-use Rattle.walk.proofs.line.Line.jump.Reads as jump-reads
 
 mul-t6 : tie.Need-mul-t6
 mul-t6 c = record { fits = omega (arith, three-sizes (c .before .before .before .before .before .pre .0 .sized X .d-size) (few (c .before .before .before .before .before .args .s) (c .before .before .before .before .before .pre .0) (c .before .before .before .before .before .args .f) (c .before .before .before .before .before .pre .1) X)) }

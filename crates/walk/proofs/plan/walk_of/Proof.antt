@@ -7,10 +7,6 @@ use Rattle.walk.specs.Scene.{Able}
 use Rattle.walk.proofs.Plans.{few, proper, windows, begun}
 use Rattle.walk.proofs.plan.walk_of.Statement.{statement}
 use Rattle.walk.proofs.plan.walk_of.Tie as tie
-use Rattle.walk.proofs.plan.walk_of.Reads as reads
-use Rattle.walk.proofs.plan.walk_of.Lts as lts
-use Rattle.walk.proofs.line.Line.index.Reads as index-reads
-use Rattle.walk.proofs.line.Line.leave_tick.Reads as leave-tick-reads
 
 rows : {s : Scene} {k : ℕ} → Able s → k < s .z .n → k * s .y .n ≤ 2 ^ 18
 rows able h = mul-le-mul {n₂ = 2 ^ 9} {m₂ = 2 ^ 9} (omega (arith, able .sized Z .n-size)) (able .sized Y .n-size)

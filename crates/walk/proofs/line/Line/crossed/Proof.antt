@@ -4,10 +4,6 @@ use Rattle.walk.proofs.Crossing.{crossed-is}
 use borrow.Author.Needs.{needs}
 use Rattle.walk.proofs.line.Line.crossed.Statement.{statement}
 use Rattle.walk.proofs.line.Line.crossed.Tie as tie
-use Rattle.walk.proofs.line.Line.crossed.Reads as reads
-use Rattle.walk.proofs.line.Line.crossed.Lts as lts
-use Rattle.walk.proofs.line.Line.index.Reads as index-reads
-use Rattle.walk.proofs.extremes.apart.Reads as apart-reads
 
 index-requires : tie.Need-index-requires
 index-requires c κs = search needs

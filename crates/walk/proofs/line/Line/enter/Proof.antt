@@ -3,10 +3,6 @@ use Rattle.walk.proofs.Units.{moves, stays}
 use borrow.Author.Needs.{needs}
 use Rattle.walk.proofs.line.Line.enter.Statement.{statement}
 use Rattle.walk.proofs.line.Line.enter.Tie as tie
-use Rattle.walk.proofs.line.Line.enter.Reads as reads
-use Rattle.walk.proofs.line.Line.enter.Lts as lts
-use Rattle.walk.proofs.line.Line.run.Reads as run-reads
-use Rattle.walk.proofs.extremes.least.Reads as least-reads
 
 returns : tie.Need-returns
 returns c = λ rest. let a = c .before .before .args .self in rw (stays (a .p) (a .q) (c .if1 .taken)) (zero-mul rest)

@@ -1,11 +1,10 @@
 use native.Mathlib.Omega.{arith}
 use mathlib.Core.Path.{sym}
-use Rattle.walk.proofs.Units.{up, down, still, factor-is}
+use Rattle.ray.proofs.Way.{up, down, still}
+use Rattle.walk.proofs.Units.{factor-is}
 use borrow.Author.Needs.{needs}
 use Rattle.walk.proofs.line.Line.factor.Statement.{statement}
 use Rattle.walk.proofs.line.Line.factor.Tie as tie
-use Rattle.walk.proofs.line.Line.factor.Reads as reads
-use Rattle.walk.proofs.line.Line.factor.Lts as lts
 
 sub-result : tie.Need-sub-result
 sub-result c = search needs

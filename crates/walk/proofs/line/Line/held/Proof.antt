@@ -2,8 +2,6 @@ use borrow.Author.Tests.{le-leb, lt-leb}
 use Rattle.walk.proofs.Units.{moves, stays}
 use Rattle.walk.proofs.line.Line.held.Statement.{statement}
 use Rattle.walk.proofs.line.Line.held.Tie as tie
-use Rattle.walk.proofs.line.Line.held.Reads as reads
-use Rattle.walk.proofs.line.Line.held.Lts as lts
 
 returns : tie.Need-returns
 returns c = let a = c .before .before .before .before .before .args .self in rw (stays (a .p) (a .q) (c .before .before .before .if1 .taken), le-leb _ _ (c .before .if2 .taken))

@@ -1,11 +1,9 @@
 use native.Mathlib.Omega.{arith}
-use Rattle.walk.proofs.Units.{up, down, still}
+use Rattle.ray.proofs.Way.{up, down, still}
 use Rattle.walk.proofs.Index.{plane-zero, in-array, index-within}
 use borrow.Author.Needs.{needs}
 use Rattle.walk.proofs.line.Line.index.Statement.{statement}
 use Rattle.walk.proofs.line.Line.index.Tie as tie
-use Rattle.walk.proofs.line.Line.index.Reads as reads
-use Rattle.walk.proofs.line.Line.index.Lts as lts
 
 div-g : tie.Need-div-g
 div-g c = search needs

@@ -3,10 +3,6 @@ use Rattle.walk.proofs.Units.{moves, stays}
 use borrow.Author.Needs.{needs}
 use Rattle.walk.proofs.line.Line.leave.Statement.{statement}
 use Rattle.walk.proofs.line.Line.leave.Tie as tie
-use Rattle.walk.proofs.line.Line.leave.Reads as reads
-use Rattle.walk.proofs.line.Line.leave.Lts as lts
-use Rattle.walk.proofs.line.Line.run.Reads as run-reads
-use Rattle.walk.proofs.extremes.most.Reads as most-reads
 
 returns : tie.Need-returns
 returns c = λ rest. let a = c .before .before .args .self in rw (stays (a .p) (a .q) (c .if1 .taken)) (one-mul rest)

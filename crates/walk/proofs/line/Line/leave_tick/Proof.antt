@@ -8,10 +8,6 @@ use Rattle.walk.proofs.Sizes.{three-sizes, leave-size}
 use borrow.Author.Needs.{needs}
 use Rattle.walk.proofs.line.Line.leave_tick.Statement.{statement}
 use Rattle.walk.proofs.line.Line.leave_tick.Tie as tie
-use Rattle.walk.proofs.line.Line.leave_tick.Reads as reads
-use Rattle.walk.proofs.line.Line.leave_tick.Lts as lts
-use Rattle.walk.proofs.line.Line.leave.Reads as leave-reads
-use Rattle.walk.proofs.line.Line.plane.Reads as plane-reads
 
 abbrev axis : tie.After-leave → Line
 axis c = c .before .before .before .args .self

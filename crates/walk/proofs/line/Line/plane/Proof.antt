@@ -3,8 +3,6 @@ use Rattle.walk.proofs.Stretch.{plane-mono}
 use borrow.Author.Needs.{needs}
 use Rattle.walk.proofs.line.Line.plane.Statement.{statement}
 use Rattle.walk.proofs.line.Line.plane.Tie as tie
-use Rattle.walk.proofs.line.Line.plane.Reads as reads
-use Rattle.walk.proofs.line.Line.plane.Lts as lts
 
 mul-result : tie.Need-mul-result
 mul-result c = record { fits = omega (arith, plane-mono (c .before .args .self) (c .before .pre .1), c .before .pre .0 .far-size) }

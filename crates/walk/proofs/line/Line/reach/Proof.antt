@@ -8,12 +8,6 @@ use Rattle.walk.proofs.Sizes.{three-sizes, enter-size, leave-size}
 use borrow.Author.Needs.{needs}
 use Rattle.walk.proofs.line.Line.reach.Statement.{statement}
 use Rattle.walk.proofs.line.Line.reach.Tie as tie
-use Rattle.walk.proofs.line.Line.reach.Reads as reads
-use Rattle.walk.proofs.line.Line.reach.Lts as lts
-use Rattle.walk.proofs.line.Line.enter.Reads as enter-reads
-use Rattle.walk.proofs.line.Line.held.Reads as held-reads
-use Rattle.walk.proofs.line.Line.leave.Reads as leave-reads
-use Rattle.walk.proofs.line.Line.plane.Reads as plane-reads
 
 abbrev axis : tie.After-held → Line
 axis c = c .before .before .before .before .before .args .self

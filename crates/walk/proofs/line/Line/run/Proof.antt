@@ -5,8 +5,6 @@ use Rattle.axis.proofs.Shift.{natural-diff}
 use borrow.Author.Needs.{needs}
 use Rattle.walk.proofs.line.Line.run.Statement.{statement}
 use Rattle.walk.proofs.line.Line.run.Tie as tie
-use Rattle.walk.proofs.line.Line.run.Reads as reads
-use Rattle.walk.proofs.line.Line.run.Lts as lts
 
 sub-result : tie.Need-sub-result
 sub-result c = search needs

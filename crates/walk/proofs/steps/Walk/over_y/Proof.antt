@@ -1,9 +1,6 @@
 use borrow.Author.Needs.{needs}
 use Rattle.walk.proofs.steps.Walk.over_y.Statement.{statement}
 use Rattle.walk.proofs.steps.Walk.over_y.Tie as tie
-use Rattle.walk.proofs.steps.Walk.over_y.Reads as reads
-use Rattle.walk.proofs.steps.Walk.over_y.Lts as lts
-use Rattle.std.proofs.num.wrapping_add_u64.Reads as wrapping-add-u64-reads
 
 wrapping-add-u64-requires : tie.Need-wrapping-add-u64-requires
 wrapping-add-u64-requires c κs = search needs

@@ -6,11 +6,6 @@ use Rattle.walk.proofs.StepIs.{step-is}
 use borrow.Author.Needs.{needs}
 use Rattle.walk.proofs.steps.Walk.step.Statement.{statement}
 use Rattle.walk.proofs.steps.Walk.step.Tie as tie
-use Rattle.walk.proofs.steps.Walk.step.Reads as reads
-use Rattle.walk.proofs.steps.Walk.step.Lts as lts
-use Rattle.walk.proofs.steps.Walk.over_x.Reads as over-x-reads
-use Rattle.walk.proofs.steps.Walk.over_y.Reads as over-y-reads
-use Rattle.walk.proofs.steps.Walk.over_z.Reads as over-z-reads
 
 over-x-requires : tie.Need-over-x-requires
 over-x-requires c κs = search needs
