@@ -25,7 +25,7 @@ use Rattle.path.specs.Answer.{accepted, written}
 use Rattle.path.specs.Inside.{weighed, Weighable, Hitting}
 
 -- ---- lists
-getD-member : (xs : List ℕ) (i : ℕ) → i < length xs → List·Memᴰ (getD xs i 0) xs
+pub getD-member : (xs : List ℕ) (i : ℕ) → i < length xs → List·Memᴰ (getD xs i 0) xs
 getD-member [] i h = absurd (omega arith)
 getD-member (x ∷ xs) zero h = List·Memᴰ·head refl
 getD-member (x ∷ xs) (suc i) h = List·Memᴰ·tail (getD-member xs i (omega arith))
@@ -39,7 +39,7 @@ pub front-written : (n : ℕ) (now old new : List ℕ) → n ≡ length new → 
 front-written n now old new l e k = sym (take-append-drop n now) ∙ rw (e, k, l, zero-add) refl
 
 -- weighing the list with its parts is the sum over it
-weighed-list : (part : ℕ → ℕ) (densities vs : List ℕ) → weighed densities vs (map part vs) ≡ sumList (map (λ m. part m * getD densities m 0) vs)
+pub weighed-list : (part : ℕ → ℕ) (densities vs : List ℕ) → weighed densities vs (map part vs) ≡ sumList (map (λ m. part m * getD densities m 0) vs)
 unfolding sum
 weighed-list part densities [] = refl
 weighed-list part densities (v ∷ vs) = ap (λ (x : ℕ). part v * getD densities v 0 + x) (weighed-list part densities vs)

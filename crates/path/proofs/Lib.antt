@@ -7,3 +7,11 @@ pub mod Answering
 pub mod Coding
 pub mod Appending
 pub mod Once
+pub mod Counted
+pub mod Demand2
+pub mod Free
+pub mod OneCall
+pub mod Room
+pub mod TurnedCalls
+pub mod Share
+pub mod CutCalls

@@ -20,12 +20,14 @@ use Rattle.ray.proofs.CutBox.{Between, near, far, upTo, onFrom, factors
 abbrev pub difference : Ray → Side → ℕ
 difference r s = natAbs (leg r s .q -ℤ leg r s .p)
 
--- The mean of the pieces, weighted by their lengths on an axis s: x/D = PM/PQ · x/D of P to M + MQ/PQ · x/D of M to Q, where x is a
--- number that each ray has, as its part in a voxel.
+-- The mean of two pieces, of lengths f₁ and f₂ on an axis on which the whole has f: x/D = f₁/f · x₁/D₁ + f₂/f · x₂/D₂, multiplied across.
+abbrev pub MeanOf : (f f₁ f₂ d d₁ d₂ x x₁ x₂ : ℕ) → Type 0
+MeanOf f f₁ f₂ d d₁ d₂ x x₁ x₂ = x * f * (d₁ * d₂) ≡ (f₁ * x₁ * d₂ + f₂ * x₂ * d₁) * d
+
+-- So P to Q of P to M and M to Q, on an axis s, where x is a number that each ray has, as its part in a voxel.
 abbrev pub Mean : Ray → End → Side → (Ray → ℕ) → Type 0
 Mean r m s x =
-    x r * difference r s * (dOf (near r m) * dOf (far r m))
-    ≡ (difference (near r m) s * x (near r m) * dOf (far r m) + difference (far r m) s * x (far r m) * dOf (near r m)) * dOf r
+    MeanOf (difference r s) (difference (near r m) s) (difference (far r m) s) (dOf r) (dOf (near r m)) (dOf (far r m)) (x r) (x (near r m)) (x (far r m))
 
 -- the same, with what x is multiplied by put together
 abbrev Spread : Ray → End → Side → (Ray → ℕ) → Type 0

@@ -4,11 +4,12 @@ use mathlib.Core.Path.{_≡_, refl, ap, _∙_}
 use mathlib.Core.Bool.{_&&_, _||_, not, cond}
 use mathlib.Core.List.{List}
 use lib.IntN.{ℤ, natAbs, _+ℤ_, _-ℤ_}
-use lib.Dec.{leb, ltb}
+use lib.Dec.{leb, ltb, eqb}
 use lib.ListN.{getD}
 use Rattle.axis.specs.Leg.{Slab, moving, factor, run, held, enters, leaves}
 use Rattle.ray.specs.declared.Ray.{Ray}
 use Rattle.ray.specs.Length.{Side, X, Y, Z, leg, dOf, rest, squaredOf, Volume, count, array, place, voxel, holds, start, stop, partOf, misses, spanOf, insert, listTo, listOf, total, sumOf, crosses, crossedOf}
+use Rattle.ray.proofs.Different.{alphaOf, some, crossesAt, crossedAt, differentOf}
 use Rattle.ray.proofs.MovedAxis.{legOn, slabOn, diff-on, moving-on, factor-on, run-on, held-on, enters-on, leaves-on}
 
 pub record Moved (k : ℤ) (v v′ : Volume) (r r′ : Ray) : Type 0 where
@@ -110,12 +111,16 @@ module _ (k : ℤ) (v v′ : Volume) (r r′ : Ray) (moved : Moved k v v′ r r�
   unfolding sumOf
   sum-moved densities = λ t. total (λ m. part-moved m t * getD densities m 0) (count-moved t)
 
+  alpha-moved : (s : Side) (i : ℕ) → alphaOf v′ r′ s i ≡ alphaOf v r s i
+  alpha-moved s i =
+      let runs : run (leg r′ s) (v′ s .at i) ≡ run (leg r s) (v s .at i) = (λ t. run (leg-is s t) (moved .planes s i t)) ∙ run-on k (leg r s) (v s .at i) in
+      λ t. runs t * rest-moved s t
+
   pub crosses-moved : (s : Side) (i : ℕ) → crosses v′ r′ s i ≡ crosses v r s i
   unfolding crosses
   crosses-moved s i =
       let move : moving (leg r′ s) ≡ moving (leg r s) = ap moving (leg-is s) ∙ moving-on k (leg r s) in
-      let runs : run (leg r′ s) (v′ s .at i) ≡ run (leg r s) (v s .at i) = (λ t. run (leg-is s t) (moved .planes s i t)) ∙ run-on k (leg r s) (v s .at i) in
-      λ t. move t && (ltb (from t) (runs t * rest-moved s t) && ltb (runs t * rest-moved s t) (to t))
+      λ t. move t && (ltb (from t) (alpha-moved s i t) && ltb (alpha-moved s i t) (to t))
 
   pub crossed-moved : crossedOf v′ r′ ≡ crossedOf v r
   unfolding crossedOf
@@ -123,3 +128,14 @@ module _ (k : ℤ) (v v′ : Volume) (r r′ : Ray) (moved : Moved k v v′ r r�
       let on : (s : Side) → total (λ i. cond (crosses v′ r′ s i) 1 0) (v′ s .n + 1) ≡ total (λ i. cond (crosses v r s i) 1 0) (v s .n + 1) = λ s.
       λ t. total (λ i. cond (crosses-moved s i t) 1 0) (moved .sizes s t + 1) in
       λ t. cond (misses-moved t) 0 (on X t + on Y t + on Z t)
+
+  crossed-at-moved : (x : ℕ) → crossedAt v′ r′ x ≡ crossedAt v r x
+  unfolding crossedAt
+  crossed-at-moved x =
+      let on : (s : Side) → some (crossesAt v′ r′ x s) (v′ s .n + 1) ≡ some (crossesAt v r x s) (v s .n + 1) = λ s.
+      λ t. some (λ i. crosses-moved s i t && eqb (alpha-moved s i t) x) (moved .sizes s t + 1) in
+      λ t. on X t || (on Y t || on Z t)
+
+  pub different-moved : differentOf v′ r′ ≡ differentOf v r
+  unfolding differentOf
+  different-moved = λ t. total (λ x. cond (crossed-at-moved x t) 1 0) (d-moved t)

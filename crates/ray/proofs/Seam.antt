@@ -1,5 +1,5 @@
 -- Two lists joined, the two numbers at the seam becoming one where they are the same; and that the joined list rises. Assumes nothing.
-use Prim.Native.Nat.{ℕ, _<_}
+use Prim.Native.Nat.{ℕ, suc, _≤_, _<_}
 use mathlib.Core.Path.{_≡_, refl, sym, ap, _∙_}
 use mathlib.Core.Bool.{cond}
 use mathlib.Core.List.{List, [], _∷_, List·Memᴰ, List·Memᴰ·head, List·Memᴰ·tail, List·Memᴰ·cases-cons, List·Memᴰ·not-nil}
@@ -7,6 +7,7 @@ use mathlib.Core.Logic.{_⊎_, inl, inr, ⊎-elim}
 use native.Mathlib.Omega.{arith}
 use native.Mathlib.Decide.{ℕ-discrete}
 use lib.Dec.{eqb}
+use lib.ListN.{length}
 use borrow.Author.Tests.{eq-eqb, ne-eqb}
 use Rattle.ray.proofs.Rising.{Rising}
 
@@ -56,6 +57,18 @@ module _ (ys : List ℕ) (w : ℕ) where
   joined-right [] h = h
   joined-right (x ∷ []) h = past-all x w ys h
   joined-right (x ∷ z ∷ xs) h = List·Memᴰ·tail (joined-right (z ∷ xs) h)
+
+past-long : (x : ℕ) (ys : List ℕ) → length ys ≤ suc (length (past x ys))
+unfolding past
+past-long x [] = omega arith
+past-long x (y ∷ ys) = elim (ℕ-discrete x y) [ yes e ↦ rw (eq-eqb x y e) (omega arith) | no e ↦ rw (ne-eqb x y e) (omega arith) ]
+
+-- neither list is longer than the joined one
+pub joined-long : (xs ys : List ℕ) → (length xs ≤ length (joined xs ys)) × (length ys ≤ length (joined xs ys))
+unfolding joined
+joined-long [] ys = (omega arith, omega arith)
+joined-long (x ∷ []) ys = (omega arith, past-long x ys)
+joined-long (x ∷ z ∷ xs) ys = let l = joined-long (z ∷ xs) ys in (omega (arith, l .0), omega (arith, l .1))
 
 module _ (f : ℕ → ℕ) where
   -- Each number of the first list lies below each other number of the second.
