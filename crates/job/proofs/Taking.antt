@@ -13,7 +13,7 @@ use Rattle.axis.specs.Codes.{bench, row, first, planesOut}
 use Rattle.ray.specs.declared.Grid.{Grid}
 use Rattle.ray.specs.Length.{X, Y, Z, volume, count}
 use Rattle.ray.specs.Codes.{gridRows}
-use Rattle.path.proofs.Accepting.{axes-ok}
+use Rattle.ray.proofs.Accepted.{axes-ok}
 use Rattle.job.specs.Line.{gridCode}
 
 abbrev table : Bool → Bool → Bool → ℕ

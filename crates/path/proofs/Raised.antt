@@ -18,7 +18,7 @@ use Rattle.ray.proofs.Moved.{Moved}
 use Rattle.walk.specs.Scene.{line, volumeOf, rayOf, Sized, Able}
 use Rattle.walk.proofs.Sizes.{factor-most}
 use Rattle.path.specs.Inside.{lineOf, sceneOf}
-use Rattle.path.proofs.Accepting.{axisOf, axes-ok, ends-inside}
+use Rattle.ray.proofs.Accepted.{axisOf, axes-ok, ends-inside}
 
 -- limits that the walk takes: a coordinate told from below is at most 2^20
 pub record Small (m : Limits) : Type 0 where

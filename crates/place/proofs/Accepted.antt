@@ -15,32 +15,16 @@ use Rattle.ray.specs.declared.Grid.{Grid}
 use Rattle.ray.specs.declared.Ray.{Ray}
 use Rattle.ray.specs.Length.{Side, X, Y, Z, leg, volume, array}
 use Rattle.ray.specs.Codes.{gridRows, someLeg, endRows}
-
-abbrev pub side : Grid → Side → Axis
-side g X = g .x
-side g Y = g .y
-side g Z = g .z
+use Rattle.ray.proofs.Accepted.{axisOf, none, grid-then}
 
 -- the array's two planes on one axis
 abbrev pub slab : Axis → Slab
 slab a = record { lo = planes a .at 0; hi = planes a .at (a .n) }
 
-pub array-is : (g : Grid) (s : Side) → array (volume g) s ≡ slab (side g s)
+pub array-is : (g : Grid) (s : Side) → array (volume g) s ≡ slab (axisOf g s)
 array-is g X = refl
 array-is g Y = refl
 array-is g Z = refl
-
-of-three : (refuses : Side → Bool) → (refuses X || (refuses Y || refuses Z)) ≡ false → (s : Side) → refuses s ≡ false
-of-three refuses h X = or-left (refuses X) _ h
-of-three refuses h Y = or-left (refuses Y) _ (or-right (refuses X) _ h)
-of-three refuses h Z = or-right (refuses Y) _ (or-right (refuses X) _ h)
-
-more-rows : (s t u : Bool) (rows : List Row) → first (row 1 s ∷ row 2 t ∷ row 3 u ∷ rows)
-    ≡ cond (eqb (first (row 1 s ∷ row 2 t ∷ row 3 u ∷ [])) 0) (first rows) (first (row 1 s ∷ row 2 t ∷ row 3 u ∷ []))
-more-rows true t u rows = refl
-more-rows false true u rows = refl
-more-rows false false true rows = refl
-more-rows false false false rows = refl
 
 off : (c : ℕ) (t : Bool) (rows : List Row) → first (row (suc c) t ∷ rows) ≡ 0 → (t ≡ false) × (first rows ≡ 0)
 off c true rows h = absurd (omega arith)
@@ -70,20 +54,20 @@ module _ (m : Limits) where
   module _ (g : Grid) (r : Ray) where
     pub refusal-is : first (gridRows m g ++ endRows m r) ≡ cond (eqb (first (gridRows m g)) 0) (first (endRows m r)) (first (gridRows m g))
     refusal-is =
-        more-rows (noN (g .x) || (noN (g .y) || noN (g .z))) (noD (g .x) || (noD (g .y) || noD (g .z)))
-        (planesOut m (g .x) || (planesOut m (g .y) || planesOut m (g .z))) (endRows m r)
+        grid-then (noN (g .x) || (noN (g .y) || noN (g .z))) (noD (g .x) || (noD (g .y) || noD (g .z)))
+        (planesOut m (g .x) || (planesOut m (g .y) || planesOut m (g .z))) (first (endRows m r))
 
     pub record Accepted : Type 0 where
-      pub axis : (s : Side) → axisCode m (side g s) ≡ 0
+      pub axis : (s : Side) → axisCode m (axisOf g s) ≡ 0
       pub from : (s : Side) → inside m (leg r s .p) ≡ true
       pub to : (s : Side) → inside m (leg r s .q) ≡ true
 
     pub accepted : first (gridRows m g ++ endRows m r) ≡ 0 → Accepted
     accepted h =
         let n = off-three (noN (g .x) || (noN (g .y) || noN (g .z))) (noD (g .x) || (noD (g .y) || noD (g .z))) (planesOut m (g .x) || (planesOut m (g .y) || planesOut m (g .z))) (endRows m r) h in
-        let one : (s : Side) → axisCode m (side g s) ≡ 0 = λ s. code-none (side g s) (of-three (λ t. noN (side g t)) (n .0) s) (of-three (λ t. noD (side g t)) (n .1 .0) s) (of-three (λ t. planesOut m (side g t)) (n .1 .1 .0) s) in
+        let one : (s : Side) → axisCode m (axisOf g s) ≡ 0 = λ s. code-none (axisOf g s) (none (λ t. noN (axisOf g t)) (n .0) s) (none (λ t. noD (axisOf g t)) (n .1 .0) s) (none (λ t. planesOut m (axisOf g t)) (n .1 .1 .0) s) in
         let out : Side → Bool = λ s. not (inside m (leg r s .p)) || not (inside m (leg r s .q)) in
-        let e : (s : Side) → out s ≡ false = of-three out (off 4 (out X || (out Y || out Z)) (row 6 (not (someLeg r moving)) ∷ []) (n .1 .1 .1) .0) in
+        let e : (s : Side) → out s ≡ false = none out (off 4 (out X || (out Y || out Z)) (row 6 (not (someLeg r moving)) ∷ []) (n .1 .1 .1) .0) in
         record {
           axis = one;
           from = λ s. not-false _ (or-left (not (inside m (leg r s .p))) _ (e s));

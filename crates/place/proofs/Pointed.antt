@@ -23,7 +23,8 @@ use Rattle.place.specs.declared.crossing.Crossing.{Crossing}
 use Rattle.place.specs.declared.crossing.Crossing.the-variants.{Refused, Miss, Through}
 use Rattle.place.specs.Deciding.{stretchOf, crossingOf}
 use Rattle.place.specs.Answers.{coordinate, pointAt, nowhere, pointsOf}
-use Rattle.place.proofs.Accepted.{side, array-is, code-ok}
+use Rattle.ray.proofs.Accepted.{axisOf}
+use Rattle.place.proofs.Accepted.{array-is, code-ok}
 use Rattle.place.proofs.Deciding.{Is, enters-is, leaves-is, share}
 use Rattle.place.proofs.Sizes.{d-some}
 use Rattle.place.proofs.Signed.{exact}
@@ -101,7 +102,7 @@ module _ (m : Limits) (g : Grid) (r : Ray) (room : m .coord + m .coord ≤ 2 ^ 2
       in-planes : (s : Side) → InPlanes s (box s)
       in-planes s =
           subst (InPlanes s) (sym (array-is g s))
-          (planes-hold m (leg r s) (H .ok .from s) (H .ok .to s) (side g s) (code-ok m (side g s) (H .ok .axis s)) (rest r s) t (dOf r) some
+          (planes-hold m (leg r s) (H .ok .from s) (H .ok .to s) (axisOf g s) (code-ok m (axisOf g s) (H .ok .axis s)) (rest r s) t (dOf r) some
           (subst (λ (b : Slab). In (stretchOf (leg r s) b) (rest r s) t (dOf r)) (array-is g s) (in-box s)))
 
       drawn : Drawn g r t (pointAt r t (dOf r))

@@ -15,7 +15,8 @@ use Rattle.ray.specs.declared.Grid.{Grid}
 use Rattle.ray.specs.declared.Ray.{Ray}
 use Rattle.ray.specs.Length.{Side, X, Y, Z, leg, dOf, volume, array}
 use Rattle.place.specs.Deciding.{stretchOf}
-use Rattle.place.proofs.Accepted.{side, slab, array-is, code-ok, Accepted}
+use Rattle.ray.proofs.Accepted.{axisOf}
+use Rattle.place.proofs.Accepted.{slab, array-is, code-ok, Accepted}
 use Rattle.place.proofs.Raised.{stretch-up, plain, rising, falling, standing}
 use Rattle.place.proofs.Deciding.{Sized}
 
@@ -63,7 +64,7 @@ module _ (m : Limits) (a : Axis) (l : Leg) (ok : AxisOk m a) (from : inside m (l
 
 module _ (m : Limits) (room : m .coord + m .coord ≤ 2 ^ 20) (g : Grid) (r : Ray) (ok : Accepted m g r) where
   pub all-sized : (s : Side) → Sized (stretchOf (leg r s) (array (volume g) s))
-  all-sized s = subst (λ (b : Slab). Sized (stretchOf (leg r s) b)) (sym (array-is g s)) (sized m (side g s) (leg r s) (code-ok m (side g s) (ok .axis s)) (ok .from s) (ok .to s) room)
+  all-sized s = subst (λ (b : Slab). Sized (stretchOf (leg r s) b)) (sym (array-is g s)) (sized m (axisOf g s) (leg r s) (code-ok m (axisOf g s) (ok .axis s)) (ok .from s) (ok .to s) room)
 
   pub d-some : 0 < dOf r
   d-some = mul-pos (all-sized X .some) (mul-pos (all-sized Y .some) (all-sized Z .some))

@@ -1,19 +1,18 @@
 -- Whether a ray's ends are accepted: turned round as it is, and each piece of an accepted ray. Assumes nothing.
-use Prim.Native.Nat.{ℕ}
 use mathlib.Core.Path.{_≡_, refl, ap₂, _∙_}
 use mathlib.Core.Bool.{Bool, true, false, not, _||_, cond}
 use mathlib.Core.Logic.{⊎-elim}
-use native.Mathlib.Omega.{arith}
 use lib.IntN.{ℤ, pos, negℤ}
 use lib.Signed.{leZ}
 use borrow.Author.Tests.{not-false}
 use Rattle.axis.specs.Leg.{Leg, moving}
 use Rattle.axis.specs.Codes.{Limits, inside, first}
-use Rattle.axis.proofs.Flag.{and-left, and-right, or-left, or-right, off-or-on}
+use Rattle.axis.proofs.Flag.{and-left, and-right, off-or-on}
 use Rattle.ray.specs.declared.End.{End}
 use Rattle.ray.specs.declared.Ray.{Ray}
 use Rattle.ray.specs.Length.{Side, X, Y, Z, leg}
 use Rattle.ray.specs.Codes.{someLeg, endRows}
+use Rattle.ray.proofs.Accepted.{two-rows, none, ends-inside}
 use Rattle.ray.proofs.Told.{le-through}
 use Rattle.ray.proofs.CutLeg.{ordered}
 use Rattle.ray.proofs.Turned.{turned, or-comm, moving-turned}
@@ -23,9 +22,7 @@ use Rattle.ray.proofs.CutBox.{coordinate, Between, cut, near, far, movi
 
 module _ (test : Leg → Bool) (r : Ray) where
   no-leg : someLeg r test ≡ false → (s : Side) → test (leg r s) ≡ false
-  no-leg h X = or-left (test (leg r X)) _ h
-  no-leg h Y = or-left (test (leg r Y)) _ (or-right (test (leg r X)) _ h)
-  no-leg h Z = or-right (test (leg r Y)) _ (or-right (test (leg r X)) _ h)
+  no-leg h = none (λ s. test (leg r s)) h
 
   each-not : ((s : Side) → test (leg r s) ≡ false) → someLeg r test ≡ false
   each-not h = rw (h X, h Y, h Z)
@@ -47,11 +44,6 @@ module _ (test : Leg → Bool) (r : Ray) where
 
 legs-same : (test : Leg → Bool) (r r′ : Ray) → ((s : Side) → test (leg r′ s) ≡ test (leg r s)) → someLeg r′ test ≡ someLeg r test
 legs-same test r r′ h = rw (h X, h Y, h Z)
-
-two-rows : (a b : Bool) → _≡_ {A = ℕ} (cond a 5 (cond b 6 0)) 0 → (a ≡ false) × (b ≡ false)
-two-rows true b h = absurd (omega arith)
-two-rows false true h = absurd (omega arith)
-two-rows false false h = (refl, refl)
 
 -- ---- turned round, and cut
 
@@ -86,10 +78,10 @@ module _ (lim : Limits) where
     moves-on = some-leg moving r (not-false (someLeg r moving) (rows .1))
 
     p-inside : (s : Side) → inside lim (leg r s .p) ≡ true
-    p-inside s = not-false _ (or-left (not (inside lim (leg r s .p))) (not (inside lim (leg r s .q))) (no-leg out r (rows .0) s))
+    p-inside s = ends-inside lim r accepted s .0
 
     q-inside : (s : Side) → inside lim (leg r s .q) ≡ true
-    q-inside s = not-false _ (or-right (not (inside lim (leg r s .p))) (not (inside lim (leg r s .q))) (no-leg out r (rows .0) s))
+    q-inside s = ends-inside lim r accepted s .1
 
     module _ (m : End) (between : Between r m) where
       m-inside : (s : Side) → inside lim (coordinate m s) ≡ true

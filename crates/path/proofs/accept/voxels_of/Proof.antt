@@ -6,7 +6,7 @@ use Rattle.axis.specs.Codes.{bench, first}
 use Rattle.ray.specs.declared.Grid.{Grid}
 use Rattle.ray.specs.Codes.{gridRows}
 use Rattle.ray.specs.Length.{Side, X, Y, Z}
-use Rattle.path.proofs.Accepting.{axisOf, axes-ok}
+use Rattle.ray.proofs.Accepted.{axisOf, axes-ok}
 use borrow.Author.Needs.{needs}
 use Rattle.path.proofs.accept.voxels_of.Statement.{statement}
 use Rattle.path.proofs.accept.voxels_of.Tie as tie

@@ -11,7 +11,8 @@ use Rattle.ray.specs.declared.Ray.{Ray}
 use Rattle.ray.specs.Length.{Side, X, Y, Z, leg, volume, array}
 use Rattle.place.specs.Deciding.{stretchOf, crossingOf}
 use Rattle.place.specs.Answers.{refusalOf}
-use Rattle.place.proofs.Accepted.{side, Accepted, accepted}
+use Rattle.ray.proofs.Accepted.{axisOf}
+use Rattle.place.proofs.Accepted.{Accepted, accepted}
 use Rattle.place.proofs.Deciding.{Sized}
 use Rattle.place.proofs.Sizes.{all-sized}
 use borrow.Author.Needs.{needs}
@@ -37,7 +38,7 @@ module _ (c : tie.Else1) where
   ends Y = (search needs, search needs)
   ends Z = (search needs, search needs)
 
-  asked : (s : Side) → (axisCode bench (side g s) ≡ 0) × ((inside bench (toZ w32 (ofZ w32 (leg r s .p))) ≡ true) × (inside bench (toZ w32 (ofZ w32 (leg r s .q))) ≡ true))
+  asked : (s : Side) → (axisCode bench (axisOf g s) ≡ 0) × ((inside bench (toZ w32 (ofZ w32 (leg r s .p))) ≡ true) × (inside bench (toZ w32 (ofZ w32 (leg r s .q))) ≡ true))
   asked s = (fine .axis s, (rw (ends s .0) (fine .from s), rw (ends s .1) (fine .to s)))
 
 on-x : (c : tie.After-on-axis) → c .on-axis .result ≡ stretchOf (leg (r (c .before .before .before .before .before .before .before .before)) X) (array (volume (g (c .before .before .before .before .before .before .before .before))) X)
