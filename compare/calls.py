@@ -9,7 +9,6 @@ memory must hold, byte for byte: the answer, and the pattern that was there wher
 from __future__ import annotations
 
 import argparse
-import platform
 import shutil
 import struct
 import subprocess
@@ -307,10 +306,10 @@ def main() -> None:
     driver = machine.room() / "driver"
     subprocess.run([machine.X86, "cc", driver, machine.HERE / "driver.c", asked.archive], check=True)
     kinds = ["large"] * 3 + ["families"] * 2 + ["bench"] + ["random"] * 10
-    if platform.machine() == "x86_64" and shutil.which("valgrind"):
+    if shutil.which("valgrind") and machine.words(driver) == [str(driver)]:
         kinds.insert(0, "valgrind")
     else:
-        print("calls: no run under valgrind, which is not here or not for x86-64")
+        print("calls: no run under valgrind: it is not here, or the driver is not this machine's own program")
     tally = Tally()
     with ProcessPoolExecutor(PROCESSES) as pool:
         begun = [pool.submit(task, driver, kind, f"{asked.seed} {kind} {at}") for at, kind in enumerate(kinds)]
