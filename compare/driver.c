@@ -1,0 +1,138 @@
+/*
+ * Makes the calls that compare/calls.py asks for on standard input, and writes back all the memory
+ * that it lent, so that every judgement is made there and none here.
+ *
+ * A list is lent between two margins, and all of its memory is filled with a pattern before the call.
+ * The argument is the size of a margin in bytes, a multiple of 8; without margins each list is a block
+ * of its own, and valgrind sees any step beside it.
+ */
+#include <stdint.h>
+#include <stdio.h>
+#include <stdlib.h>
+
+#include "ilvoresta.h"
+
+struct request {
+    uint64_t densities, voxels, parts, answer; /* counts */
+    uint32_t n[3], d[3];
+    int32_t b[3], p[3], q[3];
+    uint32_t place;       /* 1: ilvoresta_place; 0: ilvoresta_trace */
+    uint32_t null;        /* 1: a list of count 0 is lent as NULL */
+    uint32_t times, plus; /* the density of voxel v is the upper half of v * times + plus */
+    uint32_t salt;        /* where the pattern begins */
+};
+
+struct block {
+    uint8_t *memory;
+    size_t size;
+};
+
+static size_t margin;
+
+static void fail(const char *told)
+{
+    fprintf(stderr, "driver: %s\n", told);
+    exit(3);
+}
+
+static uint8_t pattern(uint32_t salt, size_t at) { return (uint8_t)(salt + 37 * at); }
+
+static struct block filled(size_t bytes, uint32_t salt)
+{
+    struct block made = {malloc(bytes + 2 * margin), bytes + 2 * margin};
+    if (made.memory == NULL && made.size > 0)
+        fail("no memory");
+    for (size_t at = 0; at < made.size; at++)
+        made.memory[at] = pattern(salt, at);
+    return made;
+}
+
+static void *list(struct block of, const struct request *r)
+{
+    return r->null && of.size == 2 * margin ? NULL : of.memory + margin;
+}
+
+static void hand_back(struct block of)
+{
+    fwrite(of.memory, 1, of.size, stdout);
+    free(of.memory);
+}
+
+/* ---- the densities: kept from call to call, since a large array takes longer to fill than to trace */
+
+static struct block array;
+static struct request filled_for;
+
+static uint16_t density(const struct request *r, size_t voxel)
+{
+    return (uint16_t)(((uint32_t)voxel * r->times + r->plus) >> 16);
+}
+
+/* The calls since the array was filled have changed neither a density nor the margins. */
+static void check_array(void)
+{
+    const uint16_t *densities = (const uint16_t *)(array.memory + margin);
+    for (size_t voxel = 0; voxel < filled_for.densities; voxel++)
+        if (densities[voxel] != density(&filled_for, voxel))
+            fail("a density was changed");
+    for (size_t at = 0; at < margin; at++)
+        if (array.memory[at] != pattern(filled_for.salt, at) ||
+            array.memory[array.size - 1 - at] != pattern(filled_for.salt, array.size - 1 - at))
+            fail("memory beside the densities was changed");
+}
+
+static void fill_array(const struct request *r)
+{
+    if (array.memory != NULL) {
+        if (r->densities == filled_for.densities && r->times == filled_for.times && r->plus == filled_for.plus)
+            return;
+        check_array();
+        free(array.memory);
+    }
+    array = filled(2 * r->densities, r->salt);
+    filled_for = *r;
+    uint16_t *densities = (uint16_t *)(array.memory + margin);
+    for (size_t voxel = 0; voxel < r->densities; voxel++)
+        densities[voxel] = density(r, voxel);
+}
+
+/* ---- the calls */
+
+static void place(const struct request *r)
+{
+    struct block answer = filled(sizeof(double) * r->answer, r->salt);
+    uint32_t code = ilvoresta_place(r->n[0], r->n[1], r->n[2], r->d[0], r->d[1], r->d[2], r->b[0], r->b[1], r->b[2],
+                                    r->p[0], r->p[1], r->p[2], r->q[0], r->q[1], r->q[2], list(answer, r), r->answer);
+    fwrite(&code, sizeof code, 1, stdout);
+    hand_back(answer);
+}
+
+static void trace(const struct request *r)
+{
+    fill_array(r);
+    struct block voxels = filled(sizeof(uint32_t) * r->voxels, r->salt);
+    struct block parts = filled(sizeof(uint64_t) * r->parts, r->salt);
+    struct block answer = filled(sizeof(uint64_t) * r->answer, r->salt);
+    uint32_t code = ilvoresta_trace(r->n[0], r->n[1], r->n[2], r->d[0], r->d[1], r->d[2], r->b[0], r->b[1], r->b[2],
+                                    r->p[0], r->p[1], r->p[2], r->q[0], r->q[1], r->q[2], list(array, r), r->densities,
+                                    list(voxels, r), r->voxels, list(parts, r), r->parts, list(answer, r), r->answer);
+    fwrite(&code, sizeof code, 1, stdout);
+    hand_back(voxels);
+    hand_back(parts);
+    hand_back(answer);
+}
+
+int main(int argc, char **argv)
+{
+    struct request r;
+    for (const char *at = argc > 1 ? argv[1] : "64"; *at != 0; at++)
+        margin = 10 * margin + (size_t)(*at - '0');
+    while (fread(&r, sizeof r, 1, stdin) == 1)
+        if (r.place)
+            place(&r);
+        else
+            trace(&r);
+    if (array.memory != NULL)
+        check_array();
+    return 0;
+}

@@ -1,0 +1,25 @@
+"""Where the built programs are, and how this machine runs them (see the file x86 beside this one)."""
+from __future__ import annotations
+
+import subprocess
+from pathlib import Path
+
+HERE = Path(__file__).resolve().parent
+ROOT = HERE.parent
+TARGET = ROOT / "target"
+X86 = HERE / "x86"
+
+
+def words(program: Path) -> list[str]:
+    """The command that runs an x86-64 program here."""
+    if not program.exists():
+        raise SystemExit(f"{program} is not there: build it first")
+    front = subprocess.run([X86, "words"], check=True, capture_output=True, text=True).stdout
+    return front.splitlines() + [str(program)]
+
+
+def room() -> Path:
+    """The folder for what the comparisons build and for jobs that failed."""
+    found = TARGET / "compare"
+    found.mkdir(parents=True, exist_ok=True)
+    return found

@@ -1,0 +1,92 @@
+#!/usr/bin/env python3
+"""Holds the independent program to document 01's own figures, and its two methods to each other.
+
+python3 compare/selftest.py [SEED]
+"""
+from __future__ import annotations
+
+import sys
+from random import Random
+
+import scenes
+from oracle import (
+    Axis, Entry, Grid, Lent, Ray, answer, by_planes, by_voxels, crossed, place, points, trace, window,
+)
+from tally import Tally
+
+SCENES = 4000
+
+BENCH: Grid = (Axis(3, 10, 0), Axis(2, 10, 0), Axis(1, 10, 0))
+DENSITIES = [1, 2, 3, 4, 5, 6]
+
+# document 01, "Rays on the bench grid": ends, entries, planes crossed, D, sum
+RAYS: dict[str, tuple[Ray, list[Entry], int, int, int]] = {
+    "A": (Ray((-10, 5, 5), (40, 5, 5)), [(0, 10), (1, 10), (2, 10)], 2, 50, 60),
+    "B": (Ray((40, 5, 5), (-10, 5, 5)), [(2, 10), (1, 10), (0, 10)], 2, 50, 60),
+    "C": (Ray((0, 0, 5), (30, 20, 5)), [(0, 200), (1, 100), (4, 100), (5, 200)], 3, 600, 2100),
+    "D": (Ray((0, 0, 5), (20, 20, 5)), [(0, 200), (4, 200)], 2, 400, 1200),
+    "E": (Ray((10, -10, 5), (10, 30, 5)), [(1, 10), (4, 10)], 1, 40, 70),
+    "F": (Ray((30, -10, 5), (30, 30, 5)), [], 0, 40, 0),
+    "G": (Ray((-10, 10, 5), (10, -10, 5)), [], 0, 400, 0),
+    "H": (Ray((12, 3, 5), (17, 3, 5)), [(1, 5)], 0, 5, 10),
+    "I": (Ray((5, 5, 5), (10, 5, 5)), [(0, 5)], 0, 5, 5),
+    "J": (Ray((10, 5, 5), (5, 5, 5)), [(0, 5)], 0, 5, 5),
+}
+
+
+def figures(tally: Tally) -> None:
+    for name, (ray, entries, planes, whole, total) in RAYS.items():
+        found = trace(BENCH, ray, DENSITIES, Lent(600, 600))
+        stated = (0, tuple(entries), planes, whole, total)
+        tally.check((found.code, found.entries, found.crossed, found.whole, found.total) == stated, f"ray {name}")
+    tally.check(place(BENCH, Ray((-10, 5, 5), (30, 5, 5))) == (0, 0.25, 1.0), "the place call's example")
+    widest = Axis(8, 4096, -16384)
+    corners = Ray((-16384,) * 3, (16384,) * 3)
+    found = trace((widest,) * 3, corners, [65535] * 512, Lent(8, 8))
+    diagonal = tuple((73 * i, 4398046511104) for i in range(8))
+    tally.check((found.entries, found.crossed, found.total) == (diagonal, 21, 2305807824841605120), "corner to corner")
+
+
+def limits(tally: Tally) -> None:
+    def code(n: int = 1, d: int = 1, c: int = 0) -> int:
+        return place((Axis(n, d, 0), BENCH[1], BENCH[2]), Ray((c, 0, 0), (1, 1, 1)))[0]
+
+    for told, good in {
+        "n": (code(n=512), code(n=513)) == (0, 1),
+        "d": (code(d=4096), code(d=4097)) == (0, 2),
+        "coordinate": (code(c=16384), code(c=16385)) == (0, 5),
+        "lists": [trace(BENCH, RAYS["C"][0], DENSITIES, Lent(room, room)).code for room in (4, 3)] == [0, 8],
+    }.items():
+        tally.check(good, f"the limit of {told}")
+
+
+def consistent(grid: Grid, ray: Ray) -> bool:
+    """Both methods, and what document 01 says of span, planes crossed, entries and points."""
+    found = answer(grid, ray, [1] * (grid[0].n * grid[1].n * grid[2].n))
+    planes, inside = crossed(grid, ray), window(grid, ray)
+    most = sum(axis.n for axis in grid) - 2
+    held = all(axis.b <= c <= axis.plane(axis.n) for at in points(grid, ray) for axis, c in zip(grid, at))
+    return (
+        by_voxels(grid, ray) == by_planes(grid, ray)
+        and found.total == found.span
+        and len(found.entries) == (len(set(planes)) + 1 if inside else 0) <= most
+        and held
+    )
+
+
+def main() -> None:
+    seed = int(sys.argv[1]) if len(sys.argv) > 1 else 1
+    dice = Random(seed)
+    tally = Tally()
+    figures(tally)
+    limits(tally)
+    for _ in range(SCENES):
+        grid = scenes.grid(dice, dice.choice([1, 2, 4, 7]))
+        ray = scenes.ray(dice, grid)
+        tally.check(consistent(grid, ray), f"{grid} {ray}")
+    print(f"selftest: seed {seed}, {SCENES} scenes by both methods of the independent program")
+    tally.close()
+
+
+if __name__ == "__main__":
+    main()
