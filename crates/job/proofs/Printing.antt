@@ -40,8 +40,8 @@ module _ (v : Volume) (voxels parts out₀ : List ℕ) (at : ℕ) where
     cells-end h = sym (p .same ∙ rw (drop-of-length-le voxels h) (append-nil (take to out)))
 
 -- the first of the lists that a trace filled
-pub first-of : (n : ℕ) (l : List ℕ) {m : ℕ} → n ≤ 600 → length l ≡ m → m ≡ 600 → length (take n l) ≡ n
-first-of n l h e f = length-take-le n l (omega arith)
+pub first-of : (n : ℕ) (l : List ℕ) → n ≤ 600 → length l ≡ 600 → length (take n l) ≡ n
+first-of n l h e = length-take-le n l (omega arith)
 
 -- a RAY line and its CELL lines
 pub ray-printed : {o₁ o₂ voxels parts : List ℕ} {t : Trace} (before : List ℕ) (g : Grid) (densities : List ℕ) (r : Ray) → t ≡ traced g densities r → voxels ≡ passed g r → parts ≡ map (partOf (volume g) r) (passed g r) → o₁ ≡ before ++ lineOf RAY (figures t) → o₂ ≡ o₁ ++ cells (volume g) voxels parts → o₂ ≡ before ++ rayText g densities r

@@ -34,12 +34,10 @@ pub record Begun (have : ℕ) (line : List ℕ) : Type 0 where
   pub short : have ≤ 4096
   pub unended : until 10 (take have line) ≡ have
 
--- the lengths of the lists lent: a line, the densities, and "The program's lists have 600 places"
-pub record Lent (l d v p : ℕ) : Type 0 where
+-- the lengths of the lists lent: a line, and the densities
+pub record Lent (l d : ℕ) : Type 0 where
   pub line : 4096 ≤ l
   pub densities : 4096 ≤ d
-  pub voxels : v ≡ 600
-  pub parts : p ≡ 600
 
 -- the most that one line prints: a RAY line with 7 numbers and 600 CELL lines with 4, a number taking 21 bytes with its space
 abbrev pub room : ℕ

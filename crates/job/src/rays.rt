@@ -88,20 +88,14 @@ fn put_cells(g: Grid, voxels: &[u32], parts: &[u64], out: &mut [u8], at: usize) 
     to
 }
 
-fn put_ray(
-    g: Grid,
-    r: Ray,
-    densities: &[u16],
-    voxels: &mut [u32],
-    parts: &mut [u64],
-    out: &mut [u8],
-    at: usize,
-) -> usize
-    requires { ⌜ Taken g (length (now densities)) × (length (now voxels) ≡ 600) × (length (now parts) ≡ 600) × (at + room ≤ length (now out)) ⌝ }
+fn put_ray(g: Grid, r: Ray, densities: &[u16], out: &mut [u8], at: usize) -> usize
+    requires { ⌜ Taken g (length (now densities)) × (at + room ≤ length (now out)) ⌝ }
     ensures { λ to. ⌜ to ≤ at + room ⌝ }
     ensures { λ to. ⌜ take to (now (out .exit)) ≡ take at (now (out .entry)) ++ rayText g (now (densities .entry)) r ⌝ }
 {
-    let t = traced_ray(g, r, densities, voxels, parts);
+    let mut voxels: [u32; 600] = [0; 600];
+    let mut parts: [u64; 600] = [0; 600];
+    let t = traced_ray(g, r, densities, &mut voxels, &mut parts);
     let n = t.entries;
     let figures = [
         t.code as u64,
@@ -116,16 +110,8 @@ fn put_ray(
     put_cells(g, &voxels[..n], &parts[..n], out, to)
 }
 
-pub fn take_ray(
-    st: State,
-    line: &[u8],
-    densities: &[u16],
-    voxels: &mut [u32],
-    parts: &mut [u64],
-    out: &mut [u8],
-    at: usize,
-) -> Moved
-    requires { ⌜ Sound st × Ready st at (length (now out)) × (0 < st .lines) × (st .left ≡ 0) × (4096 ≤ length (now densities)) × (length (now voxels) ≡ 600) × (length (now parts) ≡ 600) ⌝ }
+pub fn take_ray(st: State, line: &[u8], densities: &[u16], out: &mut [u8], at: usize) -> Moved
+    requires { ⌜ Sound st × Ready st at (length (now out)) × (0 < st .lines) × (st .left ≡ 0) × (4096 ≤ length (now densities)) ⌝ }
     ensures { λ r. ⌜ Kept st at r ⌝ }
     ensures { λ r. ⌜ stepIs (r .going) (take (r .at) (now (out .exit))) (standOf (r .state) (now (densities .entry))) ≡ after (take at (now (out .entry))) (rayStep (standOf st (now (densities .entry))) (rayIn (split 9 (now (line .entry))))) ⌝ }
 {
@@ -135,7 +121,7 @@ pub fn take_ray(
     };
     let filled = st.filled;
     let g = st.grid;
-    let to = put_ray(g, r, &densities[..filled], voxels, parts, out, at);
+    let to = put_ray(g, r, &densities[..filled], out, at);
     let mut next = st;
     next.lines = st.lines + 1;
     next.rays = st.rays + 1;

@@ -21,16 +21,8 @@ use text::put::put_line;
 pub const ROOM: usize = 53551;
 
 // Answers a line of at most 4096 bytes, its LF left out.
-fn take_line(
-    st: State,
-    line: &[u8],
-    densities: &mut [u16],
-    voxels: &mut [u32],
-    parts: &mut [u64],
-    out: &mut [u8],
-    at: usize,
-) -> Moved
-    requires { ⌜ Sound st × Ready st at (length (now out)) × Lent 4096 (length (now densities)) (length (now voxels)) (length (now parts)) × (length (now line) ≤ 4096) ⌝ }
+fn take_line(st: State, line: &[u8], densities: &mut [u16], out: &mut [u8], at: usize) -> Moved
+    requires { ⌜ Sound st × Ready st at (length (now out)) × (4096 ≤ length (now densities)) × (length (now line) ≤ 4096) ⌝ }
     ensures { λ r. ⌜ Kept st at r ⌝ }
     ensures { λ r. ⌜ stepIs (r .going) (take (r .at) (now (out .exit))) (standOf (r .state) (now (densities .exit))) ≡ after (take at (now (out .entry))) (lineStep (standOf st (now (densities .entry))) (now (line .entry))) ⌝ }
 {
@@ -46,7 +38,7 @@ fn take_line(
     if place == 1 {
         return take_dens(st, line, densities, out, at);
     }
-    take_ray(st, line, densities, voxels, parts, out, at)
+    take_ray(st, line, densities, out, at)
 }
 
 // What a piece of the input moved the job to, and where in the piece it goes on.
@@ -64,12 +56,10 @@ pub fn pump(
     piece: &[u8],
     from: usize,
     densities: &mut [u16],
-    voxels: &mut [u32],
-    parts: &mut [u64],
     out: &mut [u8],
     at: usize,
 ) -> Pumped
-    requires { ⌜ Sound st × Begun (st .have) (now line) × Ready st at (length (now out)) × Lent (length (now line)) (length (now densities)) (length (now voxels)) (length (now parts)) × (from ≤ length (now piece)) ⌝ }
+    requires { ⌜ Sound st × Begun (st .have) (now line) × Ready st at (length (now out)) × Lent (length (now line)) (length (now densities)) × (from ≤ length (now piece)) ⌝ }
     ensures { λ r. ⌜ Pumping st at from (length (now (piece .entry))) (now (line .exit)) r ⌝ }
     ensures { λ r. ⌜ ((later : List ℕ) → take at (now (out .entry)) ++ jobFrom (standOf st (now (densities .entry))) (take (st .have) (now (line .entry)) ++ (drop from (now (piece .entry)) ++ later)) ≡ take (r .moved .at) (now (out .exit)) ++ more (r .moved .going) (jobFrom (standOf (r .moved .state) (now (densities .exit))) (take (r .moved .state .have) (now (line .exit)) ++ (drop (r .next) (now (piece .entry)) ++ later)))) ⌝ }
 {
@@ -79,7 +69,7 @@ pub fn pump(
     match part {
         Cut::Line { len, next } => {
             let fresh = st.begun(0);
-            let m = take_line(fresh, &line[..len], densities, voxels, parts, out, at);
+            let m = take_line(fresh, &line[..len], densities, out, at);
             Pumped { moved: m, next }
         },
         Cut::More { len } => Pumped {

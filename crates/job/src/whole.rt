@@ -22,12 +22,10 @@ fn run(
     input: &[u8],
     line: &mut [u8],
     densities: &mut [u16],
-    voxels: &mut [u32],
-    parts: &mut [u64],
     answer: &mut [u8],
     out: &mut [u8],
 ) -> Written
-    requires { ⌜ Lent (length (now line)) (length (now densities)) (length (now voxels)) (length (now parts)) × (room ≤ length (now answer)) ⌝ }
+    requires { ⌜ Lent (length (now line)) (length (now densities)) × (room ≤ length (now answer)) ⌝ }
     ensures { λ r. ⌜ r ≡ written (jobOf (now (input .entry))) (length (now (out .entry))) ⌝ }
     ensures { λ r. ⌜ (length (jobOf (now (input .entry))) ≤ length (now (out .entry)) → take (length (jobOf (now (input .entry)))) (now (out .exit)) ≡ jobOf (now (input .entry))) ⌝ }
 {
@@ -35,7 +33,7 @@ fn run(
     let mut next: usize = 0;
     let mut to: usize = 0;
     while next < input.len() {
-        let p = pump(st, line, input, next, densities, voxels, parts, answer, 0);
+        let p = pump(st, line, input, next, densities, answer, 0);
         let m = p.moved;
         let n = m.at;
         if out.len() - to < n {
@@ -63,16 +61,6 @@ pub fn job(input: &[u8], out: &mut [u8]) -> Written
 {
     let mut line: [u8; 4096] = [0; 4096];
     let mut densities: [u16; 4096] = [0; 4096];
-    let mut voxels: [u32; 600] = [0; 600];
-    let mut parts: [u64; 600] = [0; 600];
     let mut answer: [u8; 53551] = [0; 53551];
-    run(
-        input,
-        &mut line,
-        &mut densities,
-        &mut voxels,
-        &mut parts,
-        &mut answer,
-        out,
-    )
+    run(input, &mut line, &mut densities, &mut answer, out)
 }

@@ -28,6 +28,14 @@ fn flush(out: &[u8], at: usize) -> bool
     false
 }
 
+// The job cannot go on: writes what is answered, and tells why.
+fn give_up(out: &[u8], at: usize, why: &[u8])
+    requires { ⌜ at ≤ length (now out) ⌝ }
+{
+    flush(out, at);
+    io::write_all(STDERR_FILENO, why);
+}
+
 // Where out has no room for another line's answer, writes what it holds. A failed write stops the job.
 fn spill(m: Moved, out: &[u8]) -> Moved
     requires { ⌜ (m .at ≤ length (now out)) × (room ≤ length (now out)) ⌝ }
@@ -57,14 +65,12 @@ fn feed(
     line: &mut [u8],
     piece: &[u8],
     densities: &mut [u16],
-    voxels: &mut [u32],
-    parts: &mut [u64],
     out: &mut [u8],
     at: usize,
 ) -> Moved
-    requires { ⌜ Sound st × Begun (st .have) (now line) × Lent (length (now line)) (length (now densities)) (length (now voxels)) (length (now parts)) ⌝ }
+    requires { ⌜ Sound st × Begun (st .have) (now line) × Lent (length (now line)) (length (now densities)) ⌝ }
     requires { ⌜ (at + room ≤ length (now out)) × (st .lines + length (now piece) < 2 ^ 64) ⌝ }
-    ensures { λ r. ⌜ Fed st (length (now (piece .entry))) (now (line .exit)) (length (now (out .entry))) r ⌝ }
+    ensures { λ r. ⌜ Fed (st .lines + length (now (piece .entry))) (now (line .exit)) (length (now (out .entry))) r ⌝ }
 {
     let mut m = Moved {
         state: st,
@@ -73,17 +79,7 @@ fn feed(
     };
     let mut next: usize = 0;
     while next < piece.len() {
-        let p = pump(
-            m.state,
-            line,
-            piece,
-            next,
-            densities,
-            voxels,
-            parts,
-            out,
-            m.at,
-        );
+        let p = pump(m.state, line, piece, next, densities, out, m.at);
         m = spill(p.moved, out);
         if !m.going {
             return m;
@@ -95,15 +91,8 @@ fn feed(
 
 // A proved loop has to end, and nothing says that the input does: `reads` falls from a number that
 // no run uses up.
-fn serve(
-    input: &mut [u8],
-    line: &mut [u8],
-    densities: &mut [u16],
-    voxels: &mut [u32],
-    parts: &mut [u64],
-    out: &mut [u8],
-)
-    requires { ⌜ Lent (length (now line)) (length (now densities)) (length (now voxels)) (length (now parts)) ⌝ }
+fn serve(input: &mut [u8], line: &mut [u8], densities: &mut [u16], out: &mut [u8])
+    requires { ⌜ Lent (length (now line)) (length (now densities)) ⌝ }
     requires { ⌜ (length (now input) ≤ 65536) × (room ≤ length (now out)) ⌝ }
 {
     let mut m = Moved {
@@ -116,8 +105,7 @@ fn serve(
         reads -= 1;
         let got = libc::read(STDIN_FILENO, input);
         if got < 0 {
-            flush(out, m.at);
-            io::write_all(STDERR_FILENO, b"trace: cannot read standard input\n");
+            give_up(out, m.at, b"trace: cannot read standard input\n");
             return;
         }
         let n = io::count(got, input);
@@ -126,41 +114,24 @@ fn serve(
             flush(out, end);
             return;
         }
-        m = feed(
-            m.state,
-            line,
-            &input[..n],
-            densities,
-            voxels,
-            parts,
-            out,
-            m.at,
-        );
+        m = feed(m.state, line, &input[..n], densities, out, m.at);
         if !m.going {
             flush(out, m.at);
             return;
         }
-        if LINES_MAX < m.state.lines {
-            break;
+        let lines = m.state.lines;
+        if LINES_MAX < lines {
+            give_up(out, m.at, b"trace: more lines than can be numbered\n");
+            return;
         }
     }
-    flush(out, m.at);
-    io::write_all(STDERR_FILENO, b"trace: more lines than can be numbered\n");
+    give_up(out, m.at, b"trace: more input than can be counted\n");
 }
 
 fn main() {
     let mut input = io::large_buffer();
     let mut line = io::buffer();
     let mut densities: [u16; 4096] = [0; 4096];
-    let mut voxels: [u32; 600] = [0; 600];
-    let mut parts: [u64; 600] = [0; 600];
     let mut out: [u8; 131072] = [0; 131072];
-    serve(
-        &mut input,
-        &mut line,
-        &mut densities,
-        &mut voxels,
-        &mut parts,
-        &mut out,
-    );
+    serve(&mut input, &mut line, &mut densities, &mut out);
 }

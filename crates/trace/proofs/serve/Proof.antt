@@ -1,210 +1,194 @@
+use mathlib.Core.Path.{_≡_, refl, _∙_}
+use native.Mathlib.Omega.{arith}
+use lib.ListN.{length}
+use Rattle.trace.specs.Feeding.{Fed}
+use Rattle.trace.proofs.Fed.{fed-within, fed-first}
 use Rattle.trace.proofs.serve.Statement.{statement}
 use Rattle.trace.proofs.serve.Tie as tie
 use Rattle.trace.proofs.serve.Reads as reads
 use Rattle.trace.proofs.serve.Lts as lts
 use Rattle.io.proofs.count.Reads as count-reads
-use Rattle.io.proofs.write_all.Reads as write-all-reads
 use Rattle.job.proofs.state.State.new.Reads as new-reads
 use Rattle.job.proofs.step.finish.Reads as finish-reads
 use Rattle.libc.proofs.read.Reads as read-reads
 use Rattle.trace.proofs.feed.Reads as feed-reads
 use Rattle.trace.proofs.flush.Reads as flush-reads
+use Rattle.trace.proofs.give_up.Reads as give-up-reads
 
 abbrev Inv-loop : tie.InvT-loop
-Inv-loop input₀ line₀ densities₀ voxels₀ parts₀ out₀ m₀ reads₀ t12 t13 input line densities voxels parts out m reads =
-    ?
+Inv-loop input₀ line₀ densities₀ out₀ m₀ reads₀ t11 t12 t13 input line densities out m reads =
+    (length input ≡ length input₀) × (length line ≡ length line₀) × (length densities ≡ length densities₀) × (length out ≡ length out₀) × Fed 18446744073709420544 line (length out₀) m
 
 abbrev μ-loop : tie.MeasureT-loop
-μ-loop input₀ line₀ densities₀ voxels₀ parts₀ out₀ m₀ reads₀ t12 t13 input line densities voxels parts out m reads =
-    ?
+μ-loop input₀ line₀ densities₀ out₀ m₀ reads₀ t11 t12 t13 input line densities out m reads = reads
 
--- src/main.rt:110:16
 new-requires : tie.Need-new-requires Inv-loop μ-loop
-new-requires c κs = ?
+new-requires c κs = tt
 
--- src/main.rt:115:5
 loop-holds : tie.Need-loop-holds Inv-loop μ-loop
-loop-holds c = ?
+loop-holds c =
+    let s = c .before .before .before .before .before in
+    let a = s .args in
+    let new = c .new in
+    (refl, refl, refl, refl, fed-first (new .result) (a .line .now) 18446744073709420544 (length (a .out .now)) (new .ensures .0) (new .ensures .1 .0) (new .ensures .1 .1) (s .pre .1 .1))
 
--- src/main.rt:116:9
 sub-reads : tie.Need-sub-reads Inv-loop μ-loop
-sub-reads c = ?
+sub-reads c = omega arith
 
--- src/main.rt:117:13
 read-requires : tie.Need-read-requires Inv-loop μ-loop
-read-requires c κs = ?
+read-requires c κs = tt
 
--- src/main.rt:119:13
-flush-requires : tie.Need-flush-requires Inv-loop μ-loop
-flush-requires c κs = ?
+slice-aggregate-give-up : tie.Need-slice-aggregate-give-up Inv-loop μ-loop
+slice-aggregate-give-up c = refl
 
--- src/main.rt:120:42
-slice-aggregate-write-all : tie.Need-slice-aggregate-write-all Inv-loop μ-loop
-slice-aggregate-write-all c = ?
+give-up-requires : tie.Need-give-up-requires Inv-loop μ-loop
+give-up-requires c κs = omega (arith, c .before .before .before .before .before .before .before .before .loop .inv .4 .roomy, c .before .before .before .before .before .before .before .before .loop .inv .3)
 
--- src/main.rt:120:13
-write-all-requires : tie.Need-write-all-requires Inv-loop μ-loop
-write-all-requires c κs = ?
-
--- src/main.rt:121:13
 same-length : tie.Need-same-length Inv-loop μ-loop
-same-length c = ?
+same-length c = c .before .before .before .before .before .before .read .kept .1 .0 ∙ c .before .before .before .before .before .before .before .before .before .loop .inv .0
 
--- src/main.rt:121:13
 same-length-2 : tie.Need-same-length-2 Inv-loop μ-loop
-same-length-2 c = ?
+same-length-2 c = c .before .before .before .before .before .before .before .before .before .loop .inv .1
 
--- src/main.rt:121:13
 same-length-3 : tie.Need-same-length-3 Inv-loop μ-loop
-same-length-3 c = ?
+same-length-3 c = c .before .before .before .before .before .before .before .before .before .loop .inv .2
 
--- src/main.rt:121:13
 same-length-4 : tie.Need-same-length-4 Inv-loop μ-loop
-same-length-4 c = ?
+same-length-4 c = c .before .before .before .before .before .before .before .before .before .loop .inv .3
 
--- src/main.rt:121:13
-same-length-5 : tie.Need-same-length-5 Inv-loop μ-loop
-same-length-5 c = ?
-
--- src/main.rt:121:13
-same-length-6 : tie.Need-same-length-6 Inv-loop μ-loop
-same-length-6 c = ?
-
--- src/main.rt:121:13
 returns : tie.Need-returns Inv-loop μ-loop
-returns c = ?
+returns c = tt
 
--- src/main.rt:123:13
 count-requires : tie.Need-count-requires Inv-loop μ-loop
-count-requires c κs = ?
+count-requires c κs = tt
 
--- src/main.rt:125:17
 finish-requires : tie.Need-finish-requires Inv-loop μ-loop
-finish-requires c κs = ?
+finish-requires c κs =
+    let s = c .before .before .before .before .before .before .before .before .before .before .before .before .before .before .before .before in
+    let a = s .args in
+    let o = c .before .before .before .before .before .before .before .before .before .before .loop in
+    let m = o .inv .4 in
+    (m .sound, omega (arith, m .roomy, o .inv .3), omega (arith, m .lines, m .begun .short))
 
--- src/main.rt:126:13
-flush-requires-2 : tie.Need-flush-requires-2 Inv-loop μ-loop
-flush-requires-2 c κs = ?
+flush-requires : tie.Need-flush-requires Inv-loop μ-loop
+flush-requires c κs =
+    let s = c .before .before .before .before .before .before .before .before .before .before .before .before .before .before .before .before .before .before .before .before in
+    let a = s .args in
+    let o = c .before .before .before .before .before .before .before .before .before .before .before .before .before .before .loop in
+    let end = c .before .before .before .finish in
+    omega (arith, end .ensures .0, end .kept .1 .0, o .inv .4 .roomy, o .inv .3)
 
--- src/main.rt:127:13
+same-length-5 : tie.Need-same-length-5 Inv-loop μ-loop
+same-length-5 c = c .before .before .before .before .before .before .before .before .before .before .before .before .read .kept .1 .0 ∙ c .before .before .before .before .before .before .before .before .before .before .before .before .before .before .before .loop .inv .0
+
+same-length-6 : tie.Need-same-length-6 Inv-loop μ-loop
+same-length-6 c = c .before .before .before .before .before .before .before .before .before .before .before .before .before .before .before .loop .inv .1
+
 same-length-7 : tie.Need-same-length-7 Inv-loop μ-loop
-same-length-7 c = ?
+same-length-7 c = c .before .before .before .before .before .before .before .before .before .before .before .before .before .before .before .loop .inv .2
 
--- src/main.rt:127:13
 same-length-8 : tie.Need-same-length-8 Inv-loop μ-loop
-same-length-8 c = ?
+same-length-8 c = c .before .before .before .before .finish .kept .1 .0 ∙ c .before .before .before .before .before .before .before .before .before .before .before .before .before .before .before .loop .inv .3
 
--- src/main.rt:127:13
-same-length-9 : tie.Need-same-length-9 Inv-loop μ-loop
-same-length-9 c = ?
-
--- src/main.rt:127:13
-same-length-10 : tie.Need-same-length-10 Inv-loop μ-loop
-same-length-10 c = ?
-
--- src/main.rt:127:13
-same-length-11 : tie.Need-same-length-11 Inv-loop μ-loop
-same-length-11 c = ?
-
--- src/main.rt:127:13
-same-length-12 : tie.Need-same-length-12 Inv-loop μ-loop
-same-length-12 c = ?
-
--- src/main.rt:127:13
 returns-2 : tie.Need-returns-2 Inv-loop μ-loop
-returns-2 c = ?
+returns-2 c = tt
 
--- src/main.rt:132:13
 slice-reshare-prefix-feed : tie.Need-slice-reshare-prefix-feed Inv-loop μ-loop
-slice-reshare-prefix-feed c = ?
+slice-reshare-prefix-feed c = c .before .before .count .ensures .0 .0
 
--- src/main.rt:132:13
 slice-aggregate-feed : tie.Need-slice-aggregate-feed Inv-loop μ-loop
-slice-aggregate-feed c = ?
+slice-aggregate-feed c = c .before .before .before .count .ensures .0 .1
 
--- src/main.rt:129:9
 feed-requires : tie.Need-feed-requires Inv-loop μ-loop
-feed-requires c κs = ?
+feed-requires c κs =
+    let s = c .before .before .before .before .before .before .before .before .before .before .before .before .before .before .before .before .before .before .before in
+    let a = s .args in
+    let o = c .before .before .before .before .before .before .before .before .before .before .before .before .before .loop in
+    let m = o .inv .4 in
+    let n = c .before .before .before .before .before .count in
+    let read = c .before .before .before .before .before .before .before .before .before .before .read in
+    ((m .sound, m .begun, record { line = omega (arith, o .inv .1, s .pre .0 .line); densities = omega (arith, o .inv .2, s .pre .0 .densities) }), (omega (arith, m .roomy, o .inv .3), omega (arith, m .lines, n .ensures .0 .0, n .ensures .0 .1, read .kept .1 .0, o .inv .0, s .pre .1 .0)))
 
--- src/main.rt:140:13
-flush-requires-3 : tie.Need-flush-requires-3 Inv-loop μ-loop
-flush-requires-3 c κs = ?
+flush-requires-2 : tie.Need-flush-requires-2 Inv-loop μ-loop
+flush-requires-2 c κs =
+    let s = c .before .before .before .before .before .before .before .before .before .before .before .before .before .before .before .before .before .before .before .before .before .before .before .before .before .before .before .before .before in
+    let a = s .args in
+    let o = c .before .before .before .before .before .before .before .before .before .before .before .before .before .before .before .before .before .before .before .before .before .before .before .loop in
+    let m = c .before .before .before .before .before .before .before .before .before .feed in
+    omega (arith, m .ensures .roomy, m .kept .1 .1 .1 .1 .0, o .inv .3)
 
--- src/main.rt:141:13
-same-length-13 : tie.Need-same-length-13 Inv-loop μ-loop
-same-length-13 c = ?
+same-length-9 : tie.Need-same-length-9 Inv-loop μ-loop
+same-length-9 c = c .before .before .before .before .before .before .before .before .before .before .before .before .before .before .before .before .before .before .before .before .before .read .kept .1 .0 ∙ c .before .before .before .before .before .before .before .before .before .before .before .before .before .before .before .before .before .before .before .before .before .before .before .before .loop .inv .0
 
--- src/main.rt:141:13
-same-length-14 : tie.Need-same-length-14 Inv-loop μ-loop
-same-length-14 c = ?
+same-length-10 : tie.Need-same-length-10 Inv-loop μ-loop
+same-length-10 c = c .before .before .before .before .before .before .before .before .before .before .feed .kept .1 .0 ∙ c .before .before .before .before .before .before .before .before .before .before .before .before .before .before .before .before .before .before .before .before .before .before .before .before .loop .inv .1
 
--- src/main.rt:141:13
-same-length-15 : tie.Need-same-length-15 Inv-loop μ-loop
-same-length-15 c = ?
+same-length-11 : tie.Need-same-length-11 Inv-loop μ-loop
+same-length-11 c = c .before .before .before .before .before .before .before .before .before .before .feed .kept .1 .1 .1 .0 ∙ c .before .before .before .before .before .before .before .before .before .before .before .before .before .before .before .before .before .before .before .before .before .before .before .before .loop .inv .2
 
--- src/main.rt:141:13
-same-length-16 : tie.Need-same-length-16 Inv-loop μ-loop
-same-length-16 c = ?
+same-length-12 : tie.Need-same-length-12 Inv-loop μ-loop
+same-length-12 c = c .before .before .before .before .before .before .before .before .before .before .feed .kept .1 .1 .1 .1 .0 ∙ c .before .before .before .before .before .before .before .before .before .before .before .before .before .before .before .before .before .before .before .before .before .before .before .before .loop .inv .3
 
--- src/main.rt:141:13
-same-length-17 : tie.Need-same-length-17 Inv-loop μ-loop
-same-length-17 c = ?
-
--- src/main.rt:141:13
-same-length-18 : tie.Need-same-length-18 Inv-loop μ-loop
-same-length-18 c = ?
-
--- src/main.rt:141:13
 returns-3 : tie.Need-returns-3 Inv-loop μ-loop
-returns-3 c = ?
+returns-3 c = tt
 
--- src/main.rt:115:5
-loop-less : tie.Need-loop-less Inv-loop μ-loop
-loop-less c = ?
+slice-aggregate-give-up-2 : tie.Need-slice-aggregate-give-up-2 Inv-loop μ-loop
+slice-aggregate-give-up-2 c = refl
 
--- src/main.rt:115:5
-loop-again : tie.Need-loop-again Inv-loop μ-loop
-loop-again c = ?
+give-up-requires-2 : tie.Need-give-up-requires-2 Inv-loop μ-loop
+give-up-requires-2 c κs =
+    let s = c .before .before .before .before .before .before .before .before .before .before .before .before .before .before .before .before .before .before .before .before .before .before .before .before .before .before .before .before .before .before .before in
+    let a = s .args in
+    let o = c .before .before .before .before .before .before .before .before .before .before .before .before .before .before .before .before .before .before .before .before .before .before .before .before .before .loop in
+    let m = c .before .before .before .before .before .before .before .before .before .before .before .feed in
+    omega (arith, m .ensures .roomy, m .kept .1 .1 .1 .1 .0, o .inv .3)
 
--- src/main.rt:147:5
-flush-requires-4 : tie.Need-flush-requires-4 Inv-loop μ-loop
-flush-requires-4 c κs = ?
+same-length-13 : tie.Need-same-length-13 Inv-loop μ-loop
+same-length-13 c = c .before .before .before .before .before .before .before .before .before .before .before .before .before .before .before .before .before .before .before .before .before .before .before .read .kept .1 .0 ∙ c .before .before .before .before .before .before .before .before .before .before .before .before .before .before .before .before .before .before .before .before .before .before .before .before .before .before .loop .inv .0
 
--- src/main.rt:148:34
-slice-aggregate-write-all-2 : tie.Need-slice-aggregate-write-all-2 Inv-loop μ-loop
-slice-aggregate-write-all-2 c = ?
+same-length-14 : tie.Need-same-length-14 Inv-loop μ-loop
+same-length-14 c = c .before .before .before .before .before .before .before .before .before .before .before .before .feed .kept .1 .0 ∙ c .before .before .before .before .before .before .before .before .before .before .before .before .before .before .before .before .before .before .before .before .before .before .before .before .before .before .loop .inv .1
 
--- src/main.rt:148:5
-write-all-requires-2 : tie.Need-write-all-requires-2 Inv-loop μ-loop
-write-all-requires-2 c κs = ?
+same-length-15 : tie.Need-same-length-15 Inv-loop μ-loop
+same-length-15 c = c .before .before .before .before .before .before .before .before .before .before .before .before .feed .kept .1 .1 .1 .0 ∙ c .before .before .before .before .before .before .before .before .before .before .before .before .before .before .before .before .before .before .before .before .before .before .before .before .before .before .loop .inv .2
 
--- src/main.rt:98:1
-same-length-19 : tie.Need-same-length-19 Inv-loop μ-loop
-same-length-19 c = ?
+same-length-16 : tie.Need-same-length-16 Inv-loop μ-loop
+same-length-16 c = c .before .before .before .before .before .before .before .before .before .before .before .before .feed .kept .1 .1 .1 .1 .0 ∙ c .before .before .before .before .before .before .before .before .before .before .before .before .before .before .before .before .before .before .before .before .before .before .before .before .before .before .loop .inv .3
 
--- src/main.rt:98:1
-same-length-20 : tie.Need-same-length-20 Inv-loop μ-loop
-same-length-20 c = ?
-
--- src/main.rt:98:1
-same-length-21 : tie.Need-same-length-21 Inv-loop μ-loop
-same-length-21 c = ?
-
--- src/main.rt:98:1
-same-length-22 : tie.Need-same-length-22 Inv-loop μ-loop
-same-length-22 c = ?
-
--- src/main.rt:98:1
-same-length-23 : tie.Need-same-length-23 Inv-loop μ-loop
-same-length-23 c = ?
-
--- src/main.rt:98:1
-same-length-24 : tie.Need-same-length-24 Inv-loop μ-loop
-same-length-24 c = ?
-
--- src/main.rt:98:1
 returns-4 : tie.Need-returns-4 Inv-loop μ-loop
-returns-4 c = ?
+returns-4 c = tt
+
+loop-less : tie.Need-loop-less Inv-loop μ-loop
+loop-less c = omega (arith, c .before .before .before .before .before .before .before .before .before .before .before .before .before .before .before .before .before .before .before .before .before .before .loop-test .taken)
+
+loop-again : tie.Need-loop-again Inv-loop μ-loop
+loop-again c =
+    let s = c .before .before .before .before .before .before .before .before .before .before .before .before .before .before .before .before .before .before .before .before .before .before .before .before .before .before .before .before .before in
+    let a = s .args in
+    let o = c .before .before .before .before .before .before .before .before .before .before .before .before .before .before .before .before .before .before .before .before .before .before .before .loop in
+    let m = c .before .before .before .before .before .before .before .before .before .feed in
+    (c .before .before .before .before .before .before .before .before .before .before .before .before .before .before .before .before .before .before .before .before .read .kept .1 .0 ∙ o .inv .0, m .kept .1 .0 ∙ o .inv .1, m .kept .1 .1 .1 .0 ∙ o .inv .2, m .kept .1 .1 .1 .1 .0 ∙ o .inv .3, fed-within (m .ensures) (c .if4 .left) (o .inv .3))
+
+slice-aggregate-give-up-3 : tie.Need-slice-aggregate-give-up-3 Inv-loop μ-loop
+slice-aggregate-give-up-3 c = refl
+
+give-up-requires-3 : tie.Need-give-up-requires-3 Inv-loop μ-loop
+give-up-requires-3 c κs = omega (arith, c .before .before .before .loop .inv .4 .roomy, c .before .before .before .loop .inv .3)
+
+same-length-17 : tie.Need-same-length-17 Inv-loop μ-loop
+same-length-17 c = c .before .before .before .before .loop .inv .0
+
+same-length-18 : tie.Need-same-length-18 Inv-loop μ-loop
+same-length-18 c = c .before .before .before .before .loop .inv .1
+
+same-length-19 : tie.Need-same-length-19 Inv-loop μ-loop
+same-length-19 c = c .before .before .before .before .loop .inv .2
+
+same-length-20 : tie.Need-same-length-20 Inv-loop μ-loop
+same-length-20 c = c .before .before .before .before .loop .inv .3
+
+returns-5 : tie.Need-returns-5 Inv-loop μ-loop
+returns-5 c = tt
 
 pub serve-spec : {M : Type 1} → statement M
 serve-spec =
@@ -216,46 +200,43 @@ serve-spec =
     loop-holds
     sub-reads
     read-requires
-    flush-requires
-    slice-aggregate-write-all
-    write-all-requires
+    slice-aggregate-give-up
+    give-up-requires
     same-length
     same-length-2
     same-length-3
     same-length-4
-    same-length-5
-    same-length-6
     returns
     count-requires
     finish-requires
-    flush-requires-2
+    flush-requires
+    same-length-5
+    same-length-6
     same-length-7
     same-length-8
-    same-length-9
-    same-length-10
-    same-length-11
-    same-length-12
     returns-2
     slice-reshare-prefix-feed
     slice-aggregate-feed
     feed-requires
-    flush-requires-3
+    flush-requires-2
+    same-length-9
+    same-length-10
+    same-length-11
+    same-length-12
+    returns-3
+    slice-aggregate-give-up-2
+    give-up-requires-2
     same-length-13
     same-length-14
     same-length-15
     same-length-16
-    same-length-17
-    same-length-18
-    returns-3
+    returns-4
     loop-less
     loop-again
-    flush-requires-4
-    slice-aggregate-write-all-2
-    write-all-requires-2
+    slice-aggregate-give-up-3
+    give-up-requires-3
+    same-length-17
+    same-length-18
     same-length-19
     same-length-20
-    same-length-21
-    same-length-22
-    same-length-23
-    same-length-24
-    returns-4)
+    returns-5)

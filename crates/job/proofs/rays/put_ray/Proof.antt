@@ -12,6 +12,12 @@ use Rattle.job.proofs.rays.put_cells.Reads as put-cells-reads
 use Rattle.job.proofs.rays.traced_ray.Reads as traced-ray-reads
 use Rattle.text.proofs.put.put_line.Reads as put-line-reads
 
+slice-aggregate-traced-ray : tie.Need-slice-aggregate-traced-ray
+slice-aggregate-traced-ray c = search needs
+
+slice-aggregate-traced-ray-2 : tie.Need-slice-aggregate-traced-ray-2
+slice-aggregate-traced-ray-2 c = search needs
+
 traced-ray-requires : tie.Need-traced-ray-requires
 traced-ray-requires c κs = search needs
 
@@ -27,31 +33,29 @@ slice-aggregate-put-line-2 c = search needs
 put-line-requires : tie.Need-put-line-requires
 put-line-requires c κs = search needs
 
-slice-reshare-prefix-put-cells : tie.Need-slice-reshare-prefix-put-cells
-slice-reshare-prefix-put-cells c = search needs
+array-share-prefix-voxels : tie.Need-array-share-prefix-voxels
+array-share-prefix-voxels c = search needs
 
 slice-aggregate-put-cells : tie.Need-slice-aggregate-put-cells
 slice-aggregate-put-cells c =
-    let s = c .before .before .before .before .before .before .before .before .before .before .before .before .before .before .before .before .before .before .before in
-    let t = c .before .before .before .before .before .before .before .before .before .before .before .before .traced-ray in
-    sym (first-of (t .result .entries) (t .last .1 .1 .1 .0) (t .ensures .0 .1) (t .kept .1 .1 .1 .0) (s .pre .1))
+    let t = c .before .before .before .before .before .before .before .before .before .before .traced-ray in
+    sym (first-of (t .result .entries) (t .last .1 .1 .1 .0) (t .ensures .0 .1) (t .kept .1 .1 .1 .0))
 
-slice-reshare-prefix-put-cells-2 : tie.Need-slice-reshare-prefix-put-cells-2
-slice-reshare-prefix-put-cells-2 c = search needs
+array-share-prefix-parts : tie.Need-array-share-prefix-parts
+array-share-prefix-parts c = search needs
 
 slice-aggregate-put-cells-2 : tie.Need-slice-aggregate-put-cells-2
 slice-aggregate-put-cells-2 c =
-    let s = c .before .before .before .before .before .before .before .before .before .before .before .before .before .before .before .before .before .before .before .before in
-    let t = c .before .before .before .before .before .before .before .before .before .before .before .before .before .traced-ray in
-    sym (first-of (t .result .entries) (t .last .1 .1 .1 .1 .0) (t .ensures .0 .1) (t .kept .1 .1 .1 .1 .0) (s .pre .2))
+    let t = c .before .before .before .before .before .before .before .before .before .before .before .traced-ray in
+    sym (first-of (t .result .entries) (t .last .1 .1 .1 .1 .0) (t .ensures .0 .1) (t .kept .1 .1 .1 .1 .0))
 
 put-cells-requires : tie.Need-put-cells-requires
 put-cells-requires c κs =
-    let s = c .before .before .before .before .before .before .before .before .before .before .before .before .before .before .before .before .before .before .before .before .before in
-    let t = c .before .before .before .before .before .before .before .before .before .before .before .before .before .before .traced-ray in
+    let s = c .before .before .before .before .before .before .before .before .before .before .before .before .before .before .before .before .before in
+    let t = c .before .before .before .before .before .before .before .before .before .before .before .before .traced-ray in
     let few = t .ensures .0 .1 in
-    let v = first-of (t .result .entries) (t .last .1 .1 .1 .0) few (t .kept .1 .1 .1 .0) (s .pre .1) in
-    let p = first-of (t .result .entries) (t .last .1 .1 .1 .1 .0) few (t .kept .1 .1 .1 .1 .0) (s .pre .2) in
+    let v = first-of (t .result .entries) (t .last .1 .1 .1 .0) few (t .kept .1 .1 .1 .0) in
+    let p = first-of (t .result .entries) (t .last .1 .1 .1 .1 .0) few (t .kept .1 .1 .1 .1 .0) in
     let n = sides (s .args .g) (s .pre .0 .accepted) in
     let put = c .before .before .before .before .before .put-line in
     (n .x .0, n .y .0, v ∙ sym p, omega (arith, put .ensures .0, put .kept .0))
@@ -59,19 +63,12 @@ put-cells-requires c κs =
 same-length : tie.Need-same-length
 same-length c = search needs
 
-same-length-2 : tie.Need-same-length-2
-same-length-2 c = search needs
-
-same-length-3 : tie.Need-same-length-3
-same-length-3 c = search needs
-
 returns : tie.Need-returns
 returns c =
-    let s = c .before .before .before .before .before .before .before .before .before .before .before .before .before .before .before .before .before .before .before .before .before .before .before .before in
-    let a = s .args in
-    let t = c .before .before .before .before .before .before .before .before .before .before .before .before .before .before .before .before .before .traced-ray in
+    let a = c .before .before .before .before .before .before .before .before .before .before .before .before .before .before .before .before .before .before .before .before .args in
+    let t = c .before .before .before .before .before .before .before .before .before .before .before .before .before .before .before .traced-ray in
     let few = t .ensures .0 .1 in
-    let v = first-of (t .result .entries) (t .last .1 .1 .1 .0) few (t .kept .1 .1 .1 .0) (s .pre .1) in
+    let v = first-of (t .result .entries) (t .last .1 .1 .1 .0) few (t .kept .1 .1 .1 .0) in
     let put = c .before .before .before .before .before .before .before .before .put-line in
     let more = c .before .before .put-cells in (
       omega (arith, put .ensures .0, more .ensures .0),
@@ -82,17 +79,17 @@ pub put-ray-spec : {M : Type 1} → statement M
 put-ray-spec =
     tie.close
     (tie.spec
+    slice-aggregate-traced-ray
+    slice-aggregate-traced-ray-2
     traced-ray-requires
     cast-t17
     slice-aggregate-put-line
     slice-aggregate-put-line-2
     put-line-requires
-    slice-reshare-prefix-put-cells
+    array-share-prefix-voxels
     slice-aggregate-put-cells
-    slice-reshare-prefix-put-cells-2
+    array-share-prefix-parts
     slice-aggregate-put-cells-2
     put-cells-requires
     same-length
-    same-length-2
-    same-length-3
     returns)

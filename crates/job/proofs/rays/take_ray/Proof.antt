@@ -34,7 +34,7 @@ same-length c = search needs
 
 returns : tie.Need-returns
 returns c =
-    let a = c .before .before .before .before .before .before .before .before .before .before .before .before .args in
+    let a = c .before .before .before .before .before .before .before .before .before .before .args in
     let no = c .before .before .refuse in (
       no .ensures .0 .2,
       stopped (take (a .at) (a .out .now)) (standOf (no .result .state) (a .densities .now)) (no .ensures .0 .1) (no .ensures .1)
@@ -43,40 +43,34 @@ returns c =
 
 slice-aggregate-put-ray : tie.Need-slice-aggregate-put-ray
 slice-aggregate-put-ray c =
-    let s = c .before .before .before .before .before .before .before .before .before .before .before in
+    let s = c .before .before .before .before .before .before .before .before .before in
     let fits = taken (s .args .st) (s .pre .0) (s .pre .2) (s .pre .3) in
     sym (length-take-le (s .args .st .filled) (s .args .densities .now) (omega (arith, fits .few, fits .whole, s .pre .4)))
 
 put-ray-requires : tie.Need-put-ray-requires
 put-ray-requires c κs =
-    let s = c .before .before .before .before .before .before .before .before .before .before .before .before .before .before in
+    let s = c .before .before .before .before .before .before .before .before .before .before in
     let fits = taken (s .args .st) (s .pre .0) (s .pre .2) (s .pre .3) in
     let all : length (take (s .args .st .filled) (s .args .densities .now)) ≡ s .args .st .filled = length-take-le (s .args .st .filled) (s .args .densities .now) (omega (arith, fits .few, fits .whole, s .pre .4)) in
-    (record { accepted = fits .accepted; few = fits .few; whole = all ∙ fits .whole }, s .pre .5, s .pre .6, s .pre .1 .room)
+    (record { accepted = fits .accepted; few = fits .few; whole = all ∙ fits .whole }, s .pre .1 .room)
 
 add-next : tie.Need-add-next
-add-next c = omega (arith, c .before .before .before .before .before .before .before .before .before .before .before .before .before .before .before .before .before .before .before .before .before .before .pre .1 .number)
+add-next c = search needs
 
 add-next-2 : tie.Need-add-next-2
-add-next-2 c = omega (arith, c .before .before .before .before .before .before .before .before .before .before .before .before .before .before .before .before .before .before .before .before .before .before .before .pre .1 .number, c .before .before .before .before .before .before .before .before .before .before .before .before .before .before .before .before .before .before .before .before .before .before .before .pre .0 .counted)
+add-next-2 c = omega (arith, c .before .before .before .before .before .before .before .before .before .before .before .before .before .before .before .pre .1 .number, c .before .before .before .before .before .before .before .before .before .before .before .before .before .before .before .pre .0 .counted)
 
 same-length-2 : tie.Need-same-length-2
 same-length-2 c = search needs
 
-same-length-3 : tie.Need-same-length-3
-same-length-3 c = search needs
-
-same-length-4 : tie.Need-same-length-4
-same-length-4 c = search needs
-
 returns-2 : tie.Need-returns-2
 returns-2 c =
-    let s = c .before .before .before .before .before .before .before .before .before .before .before .before .before .before .before .before .before .before .before .before .before .before .before in
+    let s = c .before .before .before .before .before .before .before .before .before .before .before .before .before .before .before in
     let a = s .args in
-    let put = c .before .before .before .before .before .before .before .before .put-ray in (
+    let put = c .before .before .before .before .put-ray in (
       record { sound = sound-ray (a .st) (s .pre .0) (s .pre .2) (s .pre .3); have = refl; lines = omega arith; room = put .ensures .0 },
       went (take (a .at) (a .out .now)) (put .ensures .1) refl
-          (ap (rayStep (standOf (a .st) (a .densities .now))) (ray-some (rayIn (split 9 (a .line .now))) (c .before .before .before .before .before .before .before .before .before .before .before .before .before .before .before .before .before .ray-in .ensures) (c .before .before .before .before .before .before .before .before .before .before .before .before .before .before .before .read .given .1))),
+          (ap (rayStep (standOf (a .st) (a .densities .now))) (ray-some (rayIn (split 9 (a .line .now))) (c .before .before .before .before .before .before .before .before .before .before .before .ray-in .ensures) (c .before .before .before .before .before .before .before .before .before .read .given .1))),
     )
 
 pub take-ray-spec : {M : Type 1} → statement M
@@ -94,6 +88,4 @@ take-ray-spec =
     add-next
     add-next-2
     same-length-2
-    same-length-3
-    same-length-4
     returns-2)

@@ -30,7 +30,7 @@ begun-requires c κs = search needs
 
 slice-reshare-prefix-take-line : tie.Need-slice-reshare-prefix-take-line
 slice-reshare-prefix-take-line c =
-    let s = c .before .before .before .before .before .before .before .before .before .before .before .before .before .before in
+    let s = c .before .before .before .before .before .before .before .before .before .before .before .before in
     let a = s .args in
     let parted = c .before .before .before .before .before .before .cut-line in
     let v = c .before .before .part .given in
@@ -40,7 +40,7 @@ slice-reshare-prefix-take-line c =
 
 slice-aggregate-take-line : tie.Need-slice-aggregate-take-line
 slice-aggregate-take-line c =
-    let s = c .before .before .before .before .before .before .before .before .before .before .before .before .before .before .before in
+    let s = c .before .before .before .before .before .before .before .before .before .before .before .before .before in
     let a = s .args in
     let parted = c .before .before .before .before .before .before .before .cut-line in
     let v = c .before .before .before .part .given in
@@ -49,14 +49,14 @@ slice-aggregate-take-line c =
 
 take-line-requires : tie.Need-take-line-requires
 take-line-requires c κs =
-    let s = c .before .before .before .before .before .before .before .before .before .before .before .before .before .before .before .before .before .before .before in
+    let s = c .before .before .before .before .before .before .before .before .before .before .before .before .before .before .before in
     let a = s .args in
-    let parted = c .before .before .before .before .before .before .before .before .before .before .before .cut-line in
-    let v = c .before .before .before .before .before .before .before .part .given in
+    let parted = c .before .before .before .before .before .before .before .before .before .cut-line in
+    let v = c .before .before .before .before .before .part .given in
     let w = as-cut (take (a .st .have) (a .line .now)) (a .piece .now) (a .from) (parted .last .0) (v .1) (parted .ensures) in
-    let e = c .before .before .before .before .before .begun .ensures in
+    let e = c .before .before .before .begun .ensures in
     let len = begun-length (v .0 .0) (parted .last .0) (w .0) in
-    (sound-with (a .st) 0 e (s .pre .0), ready-with (a .st) 0 e (s .pre .2), record { line = omega arith; densities = s .pre .3 .densities; voxels = s .pre .3 .voxels; parts = s .pre .3 .parts }, omega (arith, w .0 .short))
+    (sound-with (a .st) 0 e (s .pre .0), ready-with (a .st) 0 e (s .pre .2), s .pre .3 .densities, omega (arith, w .0 .short))
 
 enum-known-part-2 : tie.Need-enum-known-part-2
 enum-known-part-2 c = search needs
@@ -72,7 +72,7 @@ begun-requires-3 c κs = search needs
 
 refuse-requires : tie.Need-refuse-requires
 refuse-requires c κs =
-    let s = c .before .before .before .before .before .before .before .before .before .before .before .before .before .before in
+    let s = c .before .before .before .before .before .before .before .before .before .before .before .before in
     let e = c .before .begun3 .ensures in
     (sound-with (s .args .st) 0 e (s .pre .0), ready-with (s .args .st) 0 e (s .pre .2))
 
@@ -85,31 +85,25 @@ same-length-2 c = search needs
 same-length-3 : tie.Need-same-length-3
 same-length-3 c = search needs
 
+returns : tie.Need-returns
+returns c =
+    let s = c .before .before .before .before .before .before .before .before .before .before .before .before .before .before .before .before .before .before .before .before in
+    let a = s .args in
+    let parted = c .before .before .before .before .before .before .before .before .before .before .before .before .before .before .cut-line in
+    let v = c .before .before .before .before .before .before .before .before .before .before .part .given in
+    let w = as-cut (take (a .st .have) (a .line .now)) (a .piece .now) (a .from) (parted .last .0) (v .1) (parted .ensures) in
+    let fresh = c .before .before .before .before .before .before .before .before .begun in
+    let m = c .before .before .before .before .take-line in (
+      done-with (a .st) (a .at) (a .from) (a .piece .now) (parted .last .0) (fresh .result) (fresh .ensures) (m .result) (m .ensures .0) (v .0 .1 .0) (omega (arith, m .ensures .0 .lines, ap (λ (t : State). t .lines) (fresh .ensures), w .2)) (w .3) (λ h. w .2),
+      answered (a .st) (a .at) (a .from) (a .piece .now) (parted .last .0) (fresh .result) (fresh .ensures) (m .result) (m .ensures .0) (take (m .result .at) (m .last .1 .1 .1 .0)) (a .line .now) (a .densities .now) (m .last .1 .1 .0) (take (a .at) (a .out .now)) (v .0 .0) (v .0 .1 .0) (w .0) (w .1) (m .ensures .1),
+    )
+
 same-length-4 : tie.Need-same-length-4
 same-length-4 c = search needs
 
-same-length-5 : tie.Need-same-length-5
-same-length-5 c = search needs
-
-returns : tie.Need-returns
-returns c =
-    let s = c .before .before .before .before .before .before .before .before .before .before .before .before .before .before .before .before .before .before .before .before .before .before .before .before .before .before .before .before in
-    let a = s .args in
-    let parted = c .before .before .before .before .before .before .before .before .before .before .before .before .before .before .before .before .before .before .before .before .cut-line in
-    let v = c .before .before .before .before .before .before .before .before .before .before .before .before .before .before .before .before .part .given in
-    let w = as-cut (take (a .st .have) (a .line .now)) (a .piece .now) (a .from) (parted .last .0) (v .1) (parted .ensures) in
-    let fresh = c .before .before .before .before .before .before .before .before .before .before .before .before .before .before .begun in
-    let m = c .before .before .before .before .before .before .before .before .take-line in (
-      done-with (a .st) (a .at) (a .from) (a .piece .now) (parted .last .0) (fresh .result) (fresh .ensures) (m .result) (m .ensures .0) (v .0 .1 .0) (omega (arith, m .ensures .0 .lines, ap (λ (t : State). t .lines) (fresh .ensures), w .2)) (w .3) (λ h. w .2),
-      answered (a .st) (a .at) (a .from) (a .piece .now) (parted .last .0) (fresh .result) (fresh .ensures) (m .result) (m .ensures .0) (take (m .result .at) (m .last .1 .1 .1 .1 .1 .0)) (a .line .now) (a .densities .now) (m .last .1 .1 .0) (take (a .at) (a .out .now)) (v .0 .0) (v .0 .1 .0) (w .0) (w .1) (m .ensures .1),
-    )
-
-same-length-6 : tie.Need-same-length-6
-same-length-6 c = search needs
-
 returns-2 : tie.Need-returns-2
 returns-2 c =
-    let s = c .before .before .before .before .before .before .before .before .before .before .before .before .before .before in
+    let s = c .before .before .before .before .before .before .before .before .before .before .before .before in
     let a = s .args in
     let parted = c .before .before .before .before .before .before .cut-line in
     let v = c .before .before .part2 .given in
@@ -119,18 +113,19 @@ returns-2 c =
       goes-on (a .st) (st .result) (a .at) (a .from) (a .piece .now) (a .line .now) (parted .last .0) (v .0 .0) (st .ensures) (w .0) (w .1) (a .densities .now) (take (a .at) (a .out .now)),
     )
 
-same-length-7 : tie.Need-same-length-7
-same-length-7 c = search needs
+same-length-5 : tie.Need-same-length-5
+same-length-5 c = search needs
 
-same-length-8 : tie.Need-same-length-8
-same-length-8 c = search needs
+same-length-6 : tie.Need-same-length-6
+same-length-6 c = search needs
 
 returns-3 : tie.Need-returns-3
 returns-3 c =
-    let s = c .before .before .before .before .before .before .before .before .before .before .before .before .before .before .before .before .before in
+    let s = c .before .before .before .before .before .before .before .before .before .before .before .before .before .before .before in
     let a = s .args in
     let parted = c .before .before .before .before .before .before .before .before .before .cut-line in
-    let w = as-cut (take (a .st .have) (a .line .now)) (a .piece .now) (a .from) (parted .last .0) (c .before .before .before .before .before .enum-told .given .1) (parted .ensures) in
+    let v = c .before .before .before .before .before .enum-told .given in
+    let w = as-cut (take (a .st .have) (a .line .now)) (a .piece .now) (a .from) (parted .last .0) (v .1) (parted .ensures) in
     let fresh = c .before .before .before .before .begun3 in
     let no = c .before .before .refuse in (
       done-with (a .st) (a .at) (a .from) (a .piece .now) (parted .last .0) (fresh .result) (fresh .ensures) (no .result) (no .ensures .0 .2) (length (a .piece .now)) (omega (arith, ap (λ (t : State). t .lines) (no .ensures .0 .0 ∙ fresh .ensures), s .pre .4)) (omega arith) (λ h. h),
@@ -155,11 +150,9 @@ pump-spec =
     same-length
     same-length-2
     same-length-3
-    same-length-4
-    same-length-5
     returns
-    same-length-6
+    same-length-4
     returns-2
-    same-length-7
-    same-length-8
+    same-length-5
+    same-length-6
     returns-3)

@@ -34,7 +34,7 @@ same-length c = search needs
 
 returns : tie.Need-returns
 returns c =
-    let s = c .before .before .before .before .before .before .before .before .before .before .before .before .before in
+    let s = c .before .before .before .before .before .before .before .before .before .before .before in
     let a = s .args in
     let place = c .before .before .before .before .before .before .before .place in
     let code = c .before .before .before .before .before .head-code in
@@ -46,7 +46,7 @@ returns c =
 
 take-grid-requires : tie.Need-take-grid-requires
 take-grid-requires c κs =
-    let s = c .before .before .before .before .before .before .before .before .before .before .before in
+    let s = c .before .before .before .before .before .before .before .before .before in
     (s .pre .0, s .pre .1, grid-place (s .args .st .lines) (s .args .st .left) (sym (c .before .before .before .before .before .place .ensures) ∙ c .before .if2 .taken))
 
 same-length-2 : tie.Need-same-length-2
@@ -54,7 +54,7 @@ same-length-2 c = search needs
 
 returns-2 : tie.Need-returns-2
 returns-2 c =
-    let s = c .before .before .before .before .before .before .before .before .before .before .before .before .before .before in
+    let s = c .before .before .before .before .before .before .before .before .before .before .before .before in
     let a = s .args in
     let place = c .before .before .before .before .before .before .before .before .place in
     let code = c .before .before .before .before .before .before .head-code in
@@ -66,9 +66,9 @@ returns-2 c =
 
 take-dens-requires : tie.Need-take-dens-requires
 take-dens-requires c κs =
-    let s = c .before .before .before .before .before .before .before .before .before .before .before .before .before in
+    let s = c .before .before .before .before .before .before .before .before .before .before .before in
     let known = dens-place (s .args .st .lines) (s .args .st .left) (sym (c .before .before .before .before .before .before .before .place .ensures) ∙ c .before .before .if3 .taken) in
-    (s .pre .0, s .pre .1, known .0, known .1, s .pre .2 .densities)
+    (s .pre .0, s .pre .1, known .0, known .1, s .pre .2)
 
 same-length-3 : tie.Need-same-length-3
 same-length-3 c = search needs
@@ -78,7 +78,7 @@ same-length-4 c = search needs
 
 returns-3 : tie.Need-returns-3
 returns-3 c =
-    let s = c .before .before .before .before .before .before .before .before .before .before .before .before .before .before .before .before .before .before in
+    let s = c .before .before .before .before .before .before .before .before .before .before .before .before .before .before .before .before in
     let a = s .args in
     let place = c .before .before .before .before .before .before .before .before .before .before .before .before .place in
     let code = c .before .before .before .before .before .before .before .before .before .before .head-code in
@@ -90,10 +90,10 @@ returns-3 c =
 
 take-ray-requires : tie.Need-take-ray-requires
 take-ray-requires c κs =
-    let s = c .before .before .before .before .before .before .before .before .before .before .before .before .before .before .before in
-    let place = c .before .before .before .before .before .before .before .before .before .place in
-    let known = ray-place (s .args .st .lines) (s .args .st .left) (λ e. c .before .before .before .before .before .if2 .left (place .ensures ∙ e)) (λ e. c .before .before .before .before .if3 .left (place .ensures ∙ e)) in
-    (s .pre .0, s .pre .1, known .0, known .1, s .pre .2 .densities, s .pre .2 .voxels, s .pre .2 .parts)
+    let s = c .before .before .before .before .before .before .before .before .before .before .before in
+    let place = c .before .before .before .before .before .before .before .place in
+    let known = ray-place (s .args .st .lines) (s .args .st .left) (λ e. c .before .before .before .if2 .left (place .ensures ∙ e)) (λ e. c .before .before .if3 .left (place .ensures ∙ e)) in
+    (s .pre .0, s .pre .1, known .0, known .1, s .pre .2)
 
 same-length-5 : tie.Need-same-length-5
 same-length-5 c = search needs
@@ -101,23 +101,17 @@ same-length-5 c = search needs
 same-length-6 : tie.Need-same-length-6
 same-length-6 c = search needs
 
-same-length-7 : tie.Need-same-length-7
-same-length-7 c = search needs
-
-same-length-8 : tie.Need-same-length-8
-same-length-8 c = search needs
-
 returns-4 : tie.Need-returns-4
 returns-4 c =
-    let s = c .before .before .before .before .before .before .before .before .before .before .before .before .before .before .before .before .before .before .before .before .before .before in
+    let s = c .before .before .before .before .before .before .before .before .before .before .before .before .before .before in
     let a = s .args in
-    let place = c .before .before .before .before .before .before .before .before .before .before .before .before .before .before .before .before .place in
-    let code = c .before .before .before .before .before .before .before .before .before .before .before .before .before .before .head-code in
+    let place = c .before .before .before .before .before .before .before .before .before .before .place in
+    let code = c .before .before .before .before .before .before .before .before .head-code in
     let st = standOf (a .st) (a .densities .now) in
     let p = take (a .at) (a .out .now) in
     let head : code .result ≡ first (headRows (placeAt (st .lines) (st .left)) (st .grid .x .n) (split 9 (a .line .now))) = code .ensures ∙ ap (λ (n : ℕ). first (headRows n (a .st .grid .x .n) (split 9 (a .line .now)))) (place .ensures) in
-    let m = c .before .before .before .before .before .before .take-ray in
-    (m .ensures .0, m .ensures .1 ∙ ap (after p) (sym (ray-line st (a .line .now) (s .pre .3) (code .result) head (c .before .before .before .before .before .before .before .before .before .before .before .before .before .if1 .left) (λ e. c .before .before .before .before .before .before .before .before .before .before .before .before .if2 .left (place .ensures ∙ e)) (λ e. c .before .before .before .before .before .before .before .before .before .before .before .if3 .left (place .ensures ∙ e)))))
+    let m = c .before .before .take-ray in
+    (m .ensures .0, m .ensures .1 ∙ ap (after p) (sym (ray-line st (a .line .now) (s .pre .3) (code .result) head (c .before .before .before .before .before .before .before .if1 .left) (λ e. c .before .before .before .before .before .before .if2 .left (place .ensures ∙ e)) (λ e. c .before .before .before .before .before .if3 .left (place .ensures ∙ e)))))
 
 pub take-line-spec : {M : Type 1} → statement M
 take-line-spec =
@@ -138,6 +132,4 @@ take-line-spec =
     take-ray-requires
     same-length-5
     same-length-6
-    same-length-7
-    same-length-8
     returns-4)

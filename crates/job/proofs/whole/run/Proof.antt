@@ -1,12 +1,12 @@
+use Prim.Native.Nat.{_+_, _-_, _≤_}
 use mathlib.Core.List.{[], _++_}
+use mathlib.Core.Path.{_≡_, refl, sym, _∙_}
+use native.Mathlib.Omega.{arith}
 use borrow.Author.Tests.{not-true, not-false}
+use lib.ListN.{length, take, drop}
 use Rattle.job.specs.Stand.{standOf}
 use Rattle.job.specs.Job.{jobFrom}
 use Rattle.job.specs.Sound.{more}
-use Prim.Native.Nat.{_+_, _-_}
-use mathlib.Core.Path.{_≡_, refl, sym, ap, _∙_}
-use native.Mathlib.Omega.{arith}
-use lib.ListN.{length, take, drop}
 use Rattle.job.proofs.Running.{Running, answer-length, none-later, nothing-left, run-begins, run-short, run-ends, run-on}
 use Rattle.job.proofs.whole.run.Statement.{statement}
 use Rattle.job.proofs.whole.run.Tie as tie
@@ -18,279 +18,256 @@ use Rattle.job.proofs.step.pump.Reads as pump-reads
 use Rattle.text.proofs.put.put_bytes.Reads as put-bytes-reads
 
 abbrev Inv-loop : tie.InvT-loop
-Inv-loop input line₀ densities₀ voxels₀ parts₀ answer₀ out₀ st₀ next₀ to₀ line densities voxels parts answer out st next to =
-    (length line ≡ length line₀) × (length densities ≡ length densities₀) × (length voxels ≡ length voxels₀) × (length parts ≡ length parts₀) × (length answer ≡ length answer₀) × (length out ≡ length out₀) × Running input line densities out st next to
+Inv-loop input line₀ densities₀ answer₀ out₀ st₀ next₀ to₀ line densities answer out st next to =
+    (length line ≡ length line₀) × (length densities ≡ length densities₀) × (length answer ≡ length answer₀) × (length out ≡ length out₀) × Running input line densities out st next to
 
 abbrev μ-loop : tie.MeasureT-loop
-μ-loop input line₀ densities₀ voxels₀ parts₀ answer₀ out₀ st₀ next₀ to₀ line densities voxels parts answer out st next to =
-    length input - next
+μ-loop input line₀ densities₀ answer₀ out₀ st₀ next₀ to₀ line densities answer out st next to = length input - next
 
 new-requires : tie.Need-new-requires Inv-loop μ-loop
 new-requires c κs = tt
 
 loop-holds : tie.Need-loop-holds Inv-loop μ-loop
 loop-holds c =
-    let a = c .before .before .before .before .before .before .before .before .args in
-    (refl, refl, refl, refl, refl, refl, run-begins (a .input .now) (a .line .now) (a .densities .now) (a .out .now) (c .new .result) (c .new .ensures .0 (a .densities .now)) (c .new .ensures .1 .0) (c .new .ensures .1 .1))
+    let a = c .before .before .before .before .before .before .args in
+    let new = c .new in
+    (refl, refl, refl, refl, run-begins (a .input .now) (a .line .now) (a .densities .now) (a .out .now) (new .result) (new .ensures .0 (a .densities .now)) (new .ensures .1 .0) (new .ensures .1 .1))
 
 pump-requires : tie.Need-pump-requires Inv-loop μ-loop
 pump-requires c κs =
-    let l = c .before .before .before .before .before .before in
-    let s = l .before .before .before .before .before .before .before .before .before in
+    let l = c .before .before .before .before in
+    let s = c .before .before .before .before .before .before .before .before .before .before .before in
     let a = s .args in
     let o = l .loop in
-    let r = o .inv .6 in
-    (r .sound, r .begun, record { room = omega (arith, o .inv .4, s .pre .1); number = omega (arith, r .counted) }, record { line = omega (arith, o .inv .0, s .pre .0 .line); densities = omega (arith, o .inv .1, s .pre .0 .densities); voxels = o .inv .2 ∙ s .pre .0 .voxels; parts = o .inv .3 ∙ s .pre .0 .parts }, r .within)
+    let r = o .inv .4 in
+    (r .sound, r .begun, record { room = omega (arith, o .inv .2, s .pre .1); number = omega (arith, r .counted) }, record { line = omega (arith, o .inv .0, s .pre .0 .line); densities = omega (arith, o .inv .1, s .pre .0 .densities) }, r .within)
 
 sub-if1 : tie.Need-sub-if1 Inv-loop μ-loop
-sub-if1 c = c .before .before .before .before .before .before .before .before .before .before .before .before .before .before .before .before .before .before .loop .inv .6 .room
+sub-if1 c = c .before .before .before .before .before .before .before .before .before .before .before .before .loop .inv .4 .room
 
 same-length : tie.Need-same-length Inv-loop μ-loop
-same-length c = c .before .before .before .before .before .before .before .before .before .before .before .before .pump .kept .1 .0 ∙ c .before .before .before .before .before .before .before .before .before .before .before .before .before .before .before .before .before .before .before .loop .inv .0
+same-length c = c .before .before .before .before .before .before .before .before .pump .kept .1 .0 ∙ c .before .before .before .before .before .before .before .before .before .before .before .before .before .loop .inv .0
 
 same-length-2 : tie.Need-same-length-2 Inv-loop μ-loop
-same-length-2 c = c .before .before .before .before .before .before .before .before .before .before .before .before .pump .kept .1 .1 .1 .1 .0 ∙ c .before .before .before .before .before .before .before .before .before .before .before .before .before .before .before .before .before .before .before .loop .inv .1
+same-length-2 c = c .before .before .before .before .before .before .before .before .pump .kept .1 .1 .1 .1 .0 ∙ c .before .before .before .before .before .before .before .before .before .before .before .before .before .loop .inv .1
 
 same-length-3 : tie.Need-same-length-3 Inv-loop μ-loop
-same-length-3 c = c .before .before .before .before .before .before .before .before .before .before .before .before .pump .kept .1 .1 .1 .1 .1 .0 ∙ c .before .before .before .before .before .before .before .before .before .before .before .before .before .before .before .before .before .before .before .loop .inv .2
+same-length-3 c = c .before .before .before .before .before .before .before .before .pump .kept .1 .1 .1 .1 .1 .0 ∙ c .before .before .before .before .before .before .before .before .before .before .before .before .before .loop .inv .2
 
 same-length-4 : tie.Need-same-length-4 Inv-loop μ-loop
-same-length-4 c = c .before .before .before .before .before .before .before .before .before .before .before .before .pump .kept .1 .1 .1 .1 .1 .1 .0 ∙ c .before .before .before .before .before .before .before .before .before .before .before .before .before .before .before .before .before .before .before .loop .inv .3
-
-same-length-5 : tie.Need-same-length-5 Inv-loop μ-loop
-same-length-5 c = c .before .before .before .before .before .before .before .before .before .before .before .before .pump .kept .1 .1 .1 .1 .1 .1 .1 .0 ∙ c .before .before .before .before .before .before .before .before .before .before .before .before .before .before .before .before .before .before .before .loop .inv .4
-
-same-length-6 : tie.Need-same-length-6 Inv-loop μ-loop
-same-length-6 c = c .before .before .before .before .before .before .before .before .before .before .before .before .before .before .before .before .before .before .before .loop .inv .5
+same-length-4 c = c .before .before .before .before .before .before .before .before .before .before .before .before .before .loop .inv .3
 
 returns : tie.Need-returns Inv-loop μ-loop
 returns c =
-    let l = c .before .before .before .before .before .before .before .before .before .before .before .before .before .before .before .before .before .before .before in
-    let s = l .before .before .before .before .before .before .before .before .before in
+    let l = c .before .before .before .before .before .before .before .before .before .before .before .before .before in
+    let s = c .before .before .before .before .before .before .before .before .before .before .before .before .before .before .before .before .before .before .before .before in
     let a = s .args in
     let o = l .loop in
-    let p = c .before .before .before .before .before .before .before .before .before .before .before .before .pump in
-    let answer = p .last .1 .1 .1 .1 .1 .1 .1 .0 in
+    let p = c .before .before .before .before .before .before .before .before .pump in
+    let answer = p .last .1 .1 .1 .1 .1 .0 in
     let n = p .result .moved .at in
-    let sized : length (take n answer) ≡ n = answer-length n answer (p .ensures .0 .room) (p .kept .1 .1 .1 .1 .1 .1 .1 .0) (o .inv .4) (s .pre .1) in
+    let sized : length (take n answer) ≡ n = answer-length n answer (p .ensures .0 .room) (p .kept .1 .1 .1 .1 .1 .0) (o .inv .2) (s .pre .1) in
     let turn = none-later (take n answer) (p .result .moved .going) (a .input .now) (o .line) (p .last .1 .0) (standOf (o .st) (o .densities)) (standOf (p .result .moved .state) (p .last .1 .1 .1 .1 .0)) (o .st .have) (o .next) (p .result .moved .state .have) (p .result .next) (p .ensures .1) in
     let rest = more (p .result .moved .going) (jobFrom (standOf (p .result .moved .state) (p .last .1 .1 .1 .1 .0)) (take (p .result .moved .state .have) (p .last .1 .0) ++ drop (p .result .next) (a .input .now))) in
-    run-short (o .inv .6) (take n answer) rest turn (o .out) (length (a .out .now)) (o .inv .5) (omega (arith, o .inv .5))
+    run-short (o .inv .4) (take n answer) rest turn (o .out) (length (a .out .now)) (o .inv .3) (omega (arith, o .inv .3))
 
 slice-reshare-prefix-put-bytes : tie.Need-slice-reshare-prefix-put-bytes Inv-loop μ-loop
 slice-reshare-prefix-put-bytes c =
-    let l = c .before .before .before .before .before .before .before .before .before .before .before .before .before .before .before .before .before .before .before .before in
-    let s = l .before .before .before .before .before .before .before .before .before in
+    let l = c .before .before .before .before .before .before .before .before .before .before .before .before .before .before in
+    let s = c .before .before .before .before .before .before .before .before .before .before .before .before .before .before .before .before .before .before .before .before .before in
     let a = s .args in
     let o = l .loop in
-    let p = c .before .before .before .before .before .before .before .before .before .before .before .before .before .pump in
-    let answer = p .last .1 .1 .1 .1 .1 .1 .1 .0 in
+    let p = c .before .before .before .before .before .before .before .before .before .pump in
+    let answer = p .last .1 .1 .1 .1 .1 .0 in
     let n = p .result .moved .at in
-    let sized : length (take n answer) ≡ n = answer-length n answer (p .ensures .0 .room) (p .kept .1 .1 .1 .1 .1 .1 .1 .0) (o .inv .4) (s .pre .1) in
-    omega (arith, p .ensures .0 .room, p .kept .1 .1 .1 .1 .1 .1 .1 .0, o .inv .4, s .pre .1)
+    let sized : length (take n answer) ≡ n = answer-length n answer (p .ensures .0 .room) (p .kept .1 .1 .1 .1 .1 .0) (o .inv .2) (s .pre .1) in
+    omega (arith, p .ensures .0 .room, p .kept .1 .1 .1 .1 .1 .0, o .inv .2, s .pre .1)
 
 slice-aggregate-put-bytes : tie.Need-slice-aggregate-put-bytes Inv-loop μ-loop
 slice-aggregate-put-bytes c =
-    let l = c .before .before .before .before .before .before .before .before .before .before .before .before .before .before .before .before .before .before .before .before .before in
-    let s = l .before .before .before .before .before .before .before .before .before in
+    let l = c .before .before .before .before .before .before .before .before .before .before .before .before .before .before .before in
+    let s = c .before .before .before .before .before .before .before .before .before .before .before .before .before .before .before .before .before .before .before .before .before .before in
     let a = s .args in
     let o = l .loop in
-    let p = c .before .before .before .before .before .before .before .before .before .before .before .before .before .before .pump in
-    let answer = p .last .1 .1 .1 .1 .1 .1 .1 .0 in
+    let p = c .before .before .before .before .before .before .before .before .before .before .pump in
+    let answer = p .last .1 .1 .1 .1 .1 .0 in
     let n = p .result .moved .at in
-    let sized : length (take n answer) ≡ n = answer-length n answer (p .ensures .0 .room) (p .kept .1 .1 .1 .1 .1 .1 .1 .0) (o .inv .4) (s .pre .1) in
+    let sized : length (take n answer) ≡ n = answer-length n answer (p .ensures .0 .room) (p .kept .1 .1 .1 .1 .1 .0) (o .inv .2) (s .pre .1) in
     sym sized
 
 put-bytes-requires : tie.Need-put-bytes-requires Inv-loop μ-loop
 put-bytes-requires c κs =
-    let l = c .before .before .before .before .before .before .before .before .before .before .before .before .before .before .before .before .before .before .before .before .before in
-    let s = l .before .before .before .before .before .before .before .before .before in
+    let l = c .before .before .before .before .before .before .before .before .before .before .before .before .before .before .before in
+    let s = c .before .before .before .before .before .before .before .before .before .before .before .before .before .before .before .before .before .before .before .before .before .before in
     let a = s .args in
     let o = l .loop in
-    let p = c .before .before .before .before .before .before .before .before .before .before .before .before .before .before .pump in
-    let answer = p .last .1 .1 .1 .1 .1 .1 .1 .0 in
+    let p = c .before .before .before .before .before .before .before .before .before .before .pump in
+    let answer = p .last .1 .1 .1 .1 .1 .0 in
     let n = p .result .moved .at in
-    let sized : length (take n answer) ≡ n = answer-length n answer (p .ensures .0 .room) (p .kept .1 .1 .1 .1 .1 .1 .1 .0) (o .inv .4) (s .pre .1) in
-    omega (arith, o .inv .6 .room)
+    let sized : length (take n answer) ≡ n = answer-length n answer (p .ensures .0 .room) (p .kept .1 .1 .1 .1 .1 .0) (o .inv .2) (s .pre .1) in
+    omega (arith, o .inv .4 .room)
+
+same-length-5 : tie.Need-same-length-5 Inv-loop μ-loop
+same-length-5 c = c .before .before .before .before .before .before .before .before .before .before .before .before .before .before .before .pump .kept .1 .0 ∙ c .before .before .before .before .before .before .before .before .before .before .before .before .before .before .before .before .before .before .before .before .loop .inv .0
+
+same-length-6 : tie.Need-same-length-6 Inv-loop μ-loop
+same-length-6 c = c .before .before .before .before .before .before .before .before .before .before .before .before .before .before .before .pump .kept .1 .1 .1 .1 .0 ∙ c .before .before .before .before .before .before .before .before .before .before .before .before .before .before .before .before .before .before .before .before .loop .inv .1
 
 same-length-7 : tie.Need-same-length-7 Inv-loop μ-loop
-same-length-7 c = c .before .before .before .before .before .before .before .before .before .before .before .before .before .before .before .before .before .before .before .pump .kept .1 .0 ∙ c .before .before .before .before .before .before .before .before .before .before .before .before .before .before .before .before .before .before .before .before .before .before .before .before .before .before .loop .inv .0
+same-length-7 c = c .before .before .before .before .before .before .before .before .before .before .before .before .before .before .before .pump .kept .1 .1 .1 .1 .1 .0 ∙ c .before .before .before .before .before .before .before .before .before .before .before .before .before .before .before .before .before .before .before .before .loop .inv .2
 
 same-length-8 : tie.Need-same-length-8 Inv-loop μ-loop
-same-length-8 c = c .before .before .before .before .before .before .before .before .before .before .before .before .before .before .before .before .before .before .before .pump .kept .1 .1 .1 .1 .0 ∙ c .before .before .before .before .before .before .before .before .before .before .before .before .before .before .before .before .before .before .before .before .before .before .before .before .before .before .loop .inv .1
-
-same-length-9 : tie.Need-same-length-9 Inv-loop μ-loop
-same-length-9 c = c .before .before .before .before .before .before .before .before .before .before .before .before .before .before .before .before .before .before .before .pump .kept .1 .1 .1 .1 .1 .0 ∙ c .before .before .before .before .before .before .before .before .before .before .before .before .before .before .before .before .before .before .before .before .before .before .before .before .before .before .loop .inv .2
-
-same-length-10 : tie.Need-same-length-10 Inv-loop μ-loop
-same-length-10 c = c .before .before .before .before .before .before .before .before .before .before .before .before .before .before .before .before .before .before .before .pump .kept .1 .1 .1 .1 .1 .1 .0 ∙ c .before .before .before .before .before .before .before .before .before .before .before .before .before .before .before .before .before .before .before .before .before .before .before .before .before .before .loop .inv .3
-
-same-length-11 : tie.Need-same-length-11 Inv-loop μ-loop
-same-length-11 c = c .before .before .before .before .before .before .before .before .before .before .before .before .before .before .before .before .before .before .before .pump .kept .1 .1 .1 .1 .1 .1 .1 .0 ∙ c .before .before .before .before .before .before .before .before .before .before .before .before .before .before .before .before .before .before .before .before .before .before .before .before .before .before .loop .inv .4
-
-same-length-12 : tie.Need-same-length-12 Inv-loop μ-loop
-same-length-12 c = c .before .before .before .before .put-bytes .kept .0 ∙ c .before .before .before .before .before .before .before .before .before .before .before .before .before .before .before .before .before .before .before .before .before .before .before .before .before .before .loop .inv .5
+same-length-8 c = c .before .before .before .before .put-bytes .kept .0 ∙ c .before .before .before .before .before .before .before .before .before .before .before .before .before .before .before .before .before .before .before .before .loop .inv .3
 
 returns-2 : tie.Need-returns-2 Inv-loop μ-loop
 returns-2 c =
-    let l = c .before .before .before .before .before .before .before .before .before .before .before .before .before .before .before .before .before .before .before .before .before .before .before .before .before .before in
-    let s = l .before .before .before .before .before .before .before .before .before in
+    let l = c .before .before .before .before .before .before .before .before .before .before .before .before .before .before .before .before .before .before .before .before in
+    let s = c .before .before .before .before .before .before .before .before .before .before .before .before .before .before .before .before .before .before .before .before .before .before .before .before .before .before .before in
     let a = s .args in
     let o = l .loop in
-    let p = c .before .before .before .before .before .before .before .before .before .before .before .before .before .before .before .before .before .before .before .pump in
-    let answer = p .last .1 .1 .1 .1 .1 .1 .1 .0 in
+    let p = c .before .before .before .before .before .before .before .before .before .before .before .before .before .before .before .pump in
+    let answer = p .last .1 .1 .1 .1 .1 .0 in
     let n = p .result .moved .at in
-    let sized : length (take n answer) ≡ n = answer-length n answer (p .ensures .0 .room) (p .kept .1 .1 .1 .1 .1 .1 .1 .0) (o .inv .4) (s .pre .1) in
+    let sized : length (take n answer) ≡ n = answer-length n answer (p .ensures .0 .room) (p .kept .1 .1 .1 .1 .1 .0) (o .inv .2) (s .pre .1) in
     let turn = none-later (take n answer) (p .result .moved .going) (a .input .now) (o .line) (p .last .1 .0) (standOf (o .st) (o .densities)) (standOf (p .result .moved .state) (p .last .1 .1 .1 .1 .0)) (o .st .have) (o .next) (p .result .moved .state .have) (p .result .next) (p .ensures .1) in
     let rest = more (p .result .moved .going) (jobFrom (standOf (p .result .moved .state) (p .last .1 .1 .1 .1 .0)) (take (p .result .moved .state .have) (p .last .1 .0) ++ drop (p .result .next) (a .input .now))) in
     let put = c .before .before .before .before .put-bytes in
     let end : put .result ≡ o .to + length (take n answer) = put .ensures .0 in
     let whole : length (put .last .0) ≡ length (o .out) = put .kept .0 in
+    let fits : put .result ≤ length (put .last .0) = omega (arith, o .inv .4 .room, c .before .before .before .before .before .before .before .if1 .left) in
     let none : rest ≡ [] = rw (not-true (p .result .moved .going) (c .if2 .taken)) refl in
-    run-ends (o .inv .6) (take n answer) rest turn (put .last .0) (put .result) (put .ensures .1) (omega (arith, o .inv .6 .room, c .before .before .before .before .before .before .before .if1 .left)) (length (a .out .now)) (put .kept .0 ∙ o .inv .5) none
+    run-ends (o .inv .4) (take n answer) rest turn (put .last .0) (put .result) (put .ensures .1) fits (length (a .out .now)) (put .kept .0 ∙ o .inv .3) none
 
 loop-less : tie.Need-loop-less Inv-loop μ-loop
 loop-less c =
-    let p = c .before .before .before .before .before .before .before .before .before .before .before .before .before .before .before .before .before .before .before .before .pump in
-    omega (arith, p .ensures .0 .on (c .before .before .before .before .before .before .before .before .before .before .before .before .before .before .before .before .before .before .before .before .before .before .before .before .before .before .loop-test .taken), p .ensures .0 .within)
+    let p = c .before .before .before .before .before .before .before .before .before .before .before .before .before .before .before .before .pump in
+    omega (arith, p .ensures .0 .on (c .before .before .before .before .before .before .before .before .before .before .before .before .before .before .before .before .before .before .before .before .loop-test .taken), p .ensures .0 .within)
 
 loop-again : tie.Need-loop-again Inv-loop μ-loop
 loop-again c =
-    let l = c .before .before .before .before .before .before .before .before .before .before .before .before .before .before .before .before .before .before .before .before .before .before .before .before .before .before .before in
-    let s = l .before .before .before .before .before .before .before .before .before in
+    let l = c .before .before .before .before .before .before .before .before .before .before .before .before .before .before .before .before .before .before .before .before .before in
+    let s = c .before .before .before .before .before .before .before .before .before .before .before .before .before .before .before .before .before .before .before .before .before .before .before .before .before .before .before .before in
     let a = s .args in
     let o = l .loop in
-    let p = c .before .before .before .before .before .before .before .before .before .before .before .before .before .before .before .before .before .before .before .before .pump in
-    let answer = p .last .1 .1 .1 .1 .1 .1 .1 .0 in
+    let p = c .before .before .before .before .before .before .before .before .before .before .before .before .before .before .before .before .pump in
+    let answer = p .last .1 .1 .1 .1 .1 .0 in
     let n = p .result .moved .at in
-    let sized : length (take n answer) ≡ n = answer-length n answer (p .ensures .0 .room) (p .kept .1 .1 .1 .1 .1 .1 .1 .0) (o .inv .4) (s .pre .1) in
+    let sized : length (take n answer) ≡ n = answer-length n answer (p .ensures .0 .room) (p .kept .1 .1 .1 .1 .1 .0) (o .inv .2) (s .pre .1) in
     let turn = none-later (take n answer) (p .result .moved .going) (a .input .now) (o .line) (p .last .1 .0) (standOf (o .st) (o .densities)) (standOf (p .result .moved .state) (p .last .1 .1 .1 .1 .0)) (o .st .have) (o .next) (p .result .moved .state .have) (p .result .next) (p .ensures .1) in
     let rest = more (p .result .moved .going) (jobFrom (standOf (p .result .moved .state) (p .last .1 .1 .1 .1 .0)) (take (p .result .moved .state .have) (p .last .1 .0) ++ drop (p .result .next) (a .input .now))) in
     let put = c .before .before .before .before .before .put-bytes in
     let end : put .result ≡ o .to + length (take n answer) = put .ensures .0 in
     let whole : length (put .last .0) ≡ length (o .out) = put .kept .0 in
+    let fits : put .result ≤ length (put .last .0) = omega (arith, o .inv .4 .room, c .before .before .before .before .before .before .before .before .if1 .left) in
     let on : rest ≡ jobFrom (standOf (p .result .moved .state) (p .last .1 .1 .1 .1 .0)) (take (p .result .moved .state .have) (p .last .1 .0) ++ drop (p .result .next) (a .input .now)) = rw (not-false (p .result .moved .going) (c .before .if2 .left)) refl in (
       p .kept .1 .0 ∙ o .inv .0,
       p .kept .1 .1 .1 .1 .0 ∙ o .inv .1,
       p .kept .1 .1 .1 .1 .1 .0 ∙ o .inv .2,
-      p .kept .1 .1 .1 .1 .1 .1 .0 ∙ o .inv .3,
-      p .kept .1 .1 .1 .1 .1 .1 .1 .0 ∙ o .inv .4,
-      put .kept .0 ∙ o .inv .5,
-      run-on (o .inv .6) (take n answer) rest turn (put .last .0) (put .result) (put .ensures .1) (omega (arith, o .inv .6 .room, c .before .before .before .before .before .before .before .before .if1 .left)) (p .last .1 .0) (p .last .1 .1 .1 .1 .0) (p .result) (p .ensures .0) on,
+      put .kept .0 ∙ o .inv .3,
+      run-on (o .inv .4) (take n answer) rest turn (put .last .0) (put .result) (put .ensures .1) fits (p .last .1 .0) (p .last .1 .1 .1 .1 .0) (p .result) (p .ensures .0) on,
     )
 
 finish-requires : tie.Need-finish-requires Inv-loop μ-loop
 finish-requires c κs =
     let l = c .before .before in
-    let s = l .before .before .before .before .before .before .before .before .before in
+    let s = c .before .before .before .before .before .before .before .before .before in
     let a = s .args in
     let o = l .loop in
-    let r = o .inv .6 in
-    (r .sound, omega (arith, o .inv .4, s .pre .1), omega (arith, r .counted, r .within))
+    let r = o .inv .4 in
+    (r .sound, omega (arith, o .inv .2, s .pre .1), omega (arith, r .counted, r .within))
 
 sub-if3 : tie.Need-sub-if3 Inv-loop μ-loop
-sub-if3 c = c .before .before .before .before .before .loop .inv .6 .room
+sub-if3 c = c .before .before .before .before .before .loop .inv .4 .room
 
-same-length-13 : tie.Need-same-length-13 Inv-loop μ-loop
-same-length-13 c = c .before .before .before .before .before .before .loop .inv .0
+same-length-9 : tie.Need-same-length-9 Inv-loop μ-loop
+same-length-9 c = c .before .before .before .before .before .before .loop .inv .0
 
-same-length-14 : tie.Need-same-length-14 Inv-loop μ-loop
-same-length-14 c = c .before .before .before .before .before .before .loop .inv .1
+same-length-10 : tie.Need-same-length-10 Inv-loop μ-loop
+same-length-10 c = c .before .before .before .before .before .before .loop .inv .1
 
-same-length-15 : tie.Need-same-length-15 Inv-loop μ-loop
-same-length-15 c = c .before .before .before .before .before .before .loop .inv .2
+same-length-11 : tie.Need-same-length-11 Inv-loop μ-loop
+same-length-11 c = c .before .before .before .finish .kept .1 .0 ∙ c .before .before .before .before .before .before .loop .inv .2
 
-same-length-16 : tie.Need-same-length-16 Inv-loop μ-loop
-same-length-16 c = c .before .before .before .before .before .before .loop .inv .3
-
-same-length-17 : tie.Need-same-length-17 Inv-loop μ-loop
-same-length-17 c = c .before .before .before .finish .kept .1 .0 ∙ c .before .before .before .before .before .before .loop .inv .4
-
-same-length-18 : tie.Need-same-length-18 Inv-loop μ-loop
-same-length-18 c = c .before .before .before .before .before .before .loop .inv .5
+same-length-12 : tie.Need-same-length-12 Inv-loop μ-loop
+same-length-12 c = c .before .before .before .before .before .before .loop .inv .3
 
 returns-3 : tie.Need-returns-3 Inv-loop μ-loop
 returns-3 c =
     let l = c .before .before .before .before .before .before in
-    let s = l .before .before .before .before .before .before .before .before .before in
+    let s = c .before .before .before .before .before .before .before .before .before .before .before .before .before in
     let a = s .args in
     let o = l .loop in
     let f = c .before .before .before .finish in
     let answer = f .last .1 .0 in
     let n = f .result in
-    let sized : length (take n answer) ≡ n = answer-length n answer (f .ensures .0) (f .kept .1 .0) (o .inv .4) (s .pre .1) in
-    let turn = nothing-left (o .inv .6) (omega arith) (f .ensures .1 (o .line) (o .densities) (o .inv .6 .begun)) in
-    run-short (o .inv .6) (take n answer) [] turn (o .out) (length (a .out .now)) (o .inv .5) (omega (arith, o .inv .5))
+    let sized : length (take n answer) ≡ n = answer-length n answer (f .ensures .0) (f .kept .1 .0) (o .inv .2) (s .pre .1) in
+    let turn = nothing-left (o .inv .4) (omega (arith, c .before .before .before .before .before .loop-test .left)) (f .ensures .1 (o .line) (o .densities) (o .inv .4 .begun)) in
+    run-short (o .inv .4) (take n answer) [] turn (o .out) (length (a .out .now)) (o .inv .3) (omega (arith, o .inv .3))
 
 slice-reshare-prefix-put-bytes-2 : tie.Need-slice-reshare-prefix-put-bytes-2 Inv-loop μ-loop
 slice-reshare-prefix-put-bytes-2 c =
     let l = c .before .before .before .before .before .before .before in
-    let s = l .before .before .before .before .before .before .before .before .before in
+    let s = c .before .before .before .before .before .before .before .before .before .before .before .before .before .before in
     let a = s .args in
     let o = l .loop in
     let f = c .before .before .before .before .finish in
     let answer = f .last .1 .0 in
     let n = f .result in
-    let sized : length (take n answer) ≡ n = answer-length n answer (f .ensures .0) (f .kept .1 .0) (o .inv .4) (s .pre .1) in
-    omega (arith, f .ensures .0, f .kept .1 .0, o .inv .4, s .pre .1)
+    let sized : length (take n answer) ≡ n = answer-length n answer (f .ensures .0) (f .kept .1 .0) (o .inv .2) (s .pre .1) in
+    omega (arith, f .ensures .0, f .kept .1 .0, o .inv .2, s .pre .1)
 
 slice-aggregate-put-bytes-2 : tie.Need-slice-aggregate-put-bytes-2 Inv-loop μ-loop
 slice-aggregate-put-bytes-2 c =
     let l = c .before .before .before .before .before .before .before .before in
-    let s = l .before .before .before .before .before .before .before .before .before in
+    let s = c .before .before .before .before .before .before .before .before .before .before .before .before .before .before .before in
     let a = s .args in
     let o = l .loop in
     let f = c .before .before .before .before .before .finish in
     let answer = f .last .1 .0 in
     let n = f .result in
-    let sized : length (take n answer) ≡ n = answer-length n answer (f .ensures .0) (f .kept .1 .0) (o .inv .4) (s .pre .1) in
+    let sized : length (take n answer) ≡ n = answer-length n answer (f .ensures .0) (f .kept .1 .0) (o .inv .2) (s .pre .1) in
     sym sized
 
 put-bytes-requires-2 : tie.Need-put-bytes-requires-2 Inv-loop μ-loop
 put-bytes-requires-2 c κs =
     let l = c .before .before .before .before .before .before .before .before in
-    let s = l .before .before .before .before .before .before .before .before .before in
+    let s = c .before .before .before .before .before .before .before .before .before .before .before .before .before .before .before in
     let a = s .args in
     let o = l .loop in
     let f = c .before .before .before .before .before .finish in
     let answer = f .last .1 .0 in
     let n = f .result in
-    let sized : length (take n answer) ≡ n = answer-length n answer (f .ensures .0) (f .kept .1 .0) (o .inv .4) (s .pre .1) in
-    omega (arith, o .inv .6 .room)
+    let sized : length (take n answer) ≡ n = answer-length n answer (f .ensures .0) (f .kept .1 .0) (o .inv .2) (s .pre .1) in
+    omega (arith, o .inv .4 .room)
 
-same-length-19 : tie.Need-same-length-19 Inv-loop μ-loop
-same-length-19 c = c .before .before .before .before .before .before .before .before .before .before .before .loop .inv .0
+same-length-13 : tie.Need-same-length-13 Inv-loop μ-loop
+same-length-13 c = c .before .before .before .before .before .before .before .before .before .before .before .loop .inv .0
 
-same-length-20 : tie.Need-same-length-20 Inv-loop μ-loop
-same-length-20 c = c .before .before .before .before .before .before .before .before .before .before .before .loop .inv .1
+same-length-14 : tie.Need-same-length-14 Inv-loop μ-loop
+same-length-14 c = c .before .before .before .before .before .before .before .before .before .before .before .loop .inv .1
 
-same-length-21 : tie.Need-same-length-21 Inv-loop μ-loop
-same-length-21 c = c .before .before .before .before .before .before .before .before .before .before .before .loop .inv .2
+same-length-15 : tie.Need-same-length-15 Inv-loop μ-loop
+same-length-15 c = c .before .before .before .before .before .before .before .before .finish .kept .1 .0 ∙ c .before .before .before .before .before .before .before .before .before .before .before .loop .inv .2
 
-same-length-22 : tie.Need-same-length-22 Inv-loop μ-loop
-same-length-22 c = c .before .before .before .before .before .before .before .before .before .before .before .loop .inv .3
-
-same-length-23 : tie.Need-same-length-23 Inv-loop μ-loop
-same-length-23 c = c .before .before .before .before .before .before .before .before .finish .kept .1 .0 ∙ c .before .before .before .before .before .before .before .before .before .before .before .loop .inv .4
-
-same-length-24 : tie.Need-same-length-24 Inv-loop μ-loop
-same-length-24 c = c .before .before .put-bytes2 .kept .0 ∙ c .before .before .before .before .before .before .before .before .before .before .before .loop .inv .5
+same-length-16 : tie.Need-same-length-16 Inv-loop μ-loop
+same-length-16 c = c .before .before .put-bytes2 .kept .0 ∙ c .before .before .before .before .before .before .before .before .before .before .before .loop .inv .3
 
 returns-4 : tie.Need-returns-4 Inv-loop μ-loop
 returns-4 c =
     let l = c .before .before .before .before .before .before .before .before .before .before .before in
-    let s = l .before .before .before .before .before .before .before .before .before in
+    let s = c .before .before .before .before .before .before .before .before .before .before .before .before .before .before .before .before .before .before in
     let a = s .args in
     let o = l .loop in
     let f = c .before .before .before .before .before .before .before .before .finish in
     let answer = f .last .1 .0 in
     let n = f .result in
-    let sized : length (take n answer) ≡ n = answer-length n answer (f .ensures .0) (f .kept .1 .0) (o .inv .4) (s .pre .1) in
-    let turn = nothing-left (o .inv .6) (omega (arith, c .before .before .before .before .before .before .before .before .before .before .loop-test .left)) (f .ensures .1 (o .line) (o .densities) (o .inv .6 .begun)) in
+    let sized : length (take n answer) ≡ n = answer-length n answer (f .ensures .0) (f .kept .1 .0) (o .inv .2) (s .pre .1) in
+    let turn = nothing-left (o .inv .4) (omega (arith, c .before .before .before .before .before .before .before .before .before .before .loop-test .left)) (f .ensures .1 (o .line) (o .densities) (o .inv .4 .begun)) in
     let put = c .before .before .put-bytes2 in
     let end : put .result ≡ o .to + length (take n answer) = put .ensures .0 in
     let whole : length (put .last .0) ≡ length (o .out) = put .kept .0 in
-    run-ends (o .inv .6) (take n answer) [] turn (put .last .0) (put .result) (put .ensures .1) (omega (arith, o .inv .6 .room, c .before .before .before .before .before .if3 .left)) (length (a .out .now)) (put .kept .0 ∙ o .inv .5) refl
+    let fits : put .result ≤ length (put .last .0) = omega (arith, o .inv .4 .room, c .before .before .before .before .before .if3 .left) in
+    run-ends (o .inv .4) (take n answer) [] turn (put .last .0) (put .result) (put .ensures .1) fits (length (a .out .now)) (put .kept .0 ∙ o .inv .3) refl
 
 pub run-spec : {M : Type 1} → statement M
 run-spec =
@@ -306,37 +283,29 @@ run-spec =
     same-length-2
     same-length-3
     same-length-4
-    same-length-5
-    same-length-6
     returns
     slice-reshare-prefix-put-bytes
     slice-aggregate-put-bytes
     put-bytes-requires
+    same-length-5
+    same-length-6
     same-length-7
     same-length-8
-    same-length-9
-    same-length-10
-    same-length-11
-    same-length-12
     returns-2
     loop-less
     loop-again
     finish-requires
     sub-if3
-    same-length-13
-    same-length-14
-    same-length-15
-    same-length-16
-    same-length-17
-    same-length-18
+    same-length-9
+    same-length-10
+    same-length-11
+    same-length-12
     returns-3
     slice-reshare-prefix-put-bytes-2
     slice-aggregate-put-bytes-2
     put-bytes-requires-2
-    same-length-19
-    same-length-20
-    same-length-21
-    same-length-22
-    same-length-23
-    same-length-24
+    same-length-13
+    same-length-14
+    same-length-15
+    same-length-16
     returns-4)
