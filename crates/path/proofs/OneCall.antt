@@ -11,7 +11,6 @@ use lib.ListN.{length, take, drop, getD, set, length-map, length-set}
 use lib.Seq.{length-take-le, take-at, drop-at, take-append-seam, drop-append-seam, drop-drop, getD-take}
 use borrow.Author.Tests.{eq-eqb, ne-eqb}
 use Rattle.axis.specs.Codes.{bench, first}
-use Rattle.axis.proofs.Once.{once}
 use Rattle.ray.specs.declared.Grid.{Grid}
 use Rattle.ray.specs.declared.Ray.{Ray}
 use Rattle.ray.specs.Length.{volume, voxel, dOf, partOf, listOf, sumOf, crossedOf}
@@ -158,11 +157,6 @@ accepted-too t h u ends few lists long =
     })
 
 module _ {g : Grid} {r : Ray} {densities vs ps : List ℕ} {filled : ℕ} where
-  -- one answer is allowed, and one content of each list
-  pub answers-once : {a b : Trace} {vs′ ps′ ws qs : List ℕ} → Answers g r densities vs ps filled a vs′ ps′ → Answers g r densities vs ps filled b ws qs
-      → (a ≡ b) × (vs′ ≡ ws) × (ps′ ≡ qs)
-  answers-once t u = (once (t .answer) (u .answer), once (t .voxels-now) (u .voxels-now), once (t .parts-now) (u .parts-now))
-
   -- "Altering the density of a voxel outside the list changes nothing": the call answers and leaves what it would have
   pub altered : {a : Trace} {vs′ ps′ : List ℕ} (w new : ℕ) → (List·Memᴰ w (listOf (volume g) r) → ⊥)
       → Answers g r (set densities w new) vs ps filled a vs′ ps′ → Answers g r densities vs ps filled a vs′ ps′
