@@ -13,3 +13,4 @@ pub mod Ending
 pub mod Turns
 pub mod Running
 pub mod Tracing
+pub mod Once
