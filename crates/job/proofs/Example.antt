@@ -27,3 +27,8 @@ pub example : jobOf (
     ++ (69 ∷ 78 ∷ 68 ∷ 32 ∷ 49 ∷ 10 ∷ [])
 unfolding partOf misses spanOf insert listTo listOf total sumOf crosses crossedOf split digitsOf decimal digits naturalOf hasMinus integerOf every same spaced lineOf traced passed cells rayText numbersStep lineStep linesFrom jobFrom jobOf
 example = refl
+
+-- an empty input ends before the last DENS: BAD 1 22
+pub empty : jobOf [] ≡ 66 ∷ 65 ∷ 68 ∷ 32 ∷ 49 ∷ 32 ∷ 50 ∷ 50 ∷ 10 ∷ []
+unfolding split digitsOf decimal spaced lineOf linesFrom jobFrom jobOf
+empty = refl

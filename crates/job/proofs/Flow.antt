@@ -1,5 +1,5 @@
 -- The job goes from line to line, wherever its input is cut. Assumes nothing.
-use Prim.Native.Nat.{ℕ, zero, suc, _+_, _≤_, _<_}
+use Prim.Native.Nat.{ℕ, zero, suc, _≤_, _<_}
 use mathlib.Core.Bool.{Bool, true, false, cond}
 use mathlib.Core.List.{List, [], _∷_, _++_, append-assoc, append-nil}
 use mathlib.Core.Path.{_≡_, refl, ap, sym, _∙_, subst}
@@ -10,12 +10,11 @@ use native.Mathlib.Nat.{add-zero}
 use native.Mathlib.Omega.{arith}
 use borrow.Author.Tests.{lt-ltb}
 use Rattle.text.specs.Split.{split, until, after}
-use Rattle.text.specs.Line.{lineOf}
 use Rattle.text.proofs.Split.{split-first, end-within}
-use Rattle.job.specs.Stand.{Stand, placeAt}
+use Rattle.job.specs.Stand.{Stand}
 use Rattle.job.specs.Line.{Step, goes, stops, badLine, lineStep}
-use Rattle.job.specs.Job.{END, atEnd, andThen, linesFrom, jobFrom}
-use Rattle.job.specs.Sound.{Begun, stepIs, more}
+use Rattle.job.specs.Job.{atEnd, andThen, linesFrom, jobFrom}
+use Rattle.job.specs.Sound.{stepIs, more}
 use Rattle.job.specs.Sound as sound
 use Rattle.job.proofs.Cutting.{until-behind}
 

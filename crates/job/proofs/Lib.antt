@@ -1,5 +1,6 @@
 -- Laws of the text job.
 pub mod Example
+pub mod Once
 pub mod Refusals
 pub mod Taking
 pub mod Fields

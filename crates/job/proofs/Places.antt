@@ -1,8 +1,8 @@
 -- What a line is answered, by its place. Assumes nothing.
-use Prim.Native.Nat.{ℕ, zero, suc, _+_, _≤_, _<_}
+use Prim.Native.Nat.{ℕ, _≤_, _<_}
 use mathlib.Core.Bool.{Bool, true, false, cond}
 use mathlib.Core.List.{List}
-use mathlib.Core.Path.{_≡_, refl, sym, _∙_}
+use mathlib.Core.Path.{_≡_, refl, _∙_}
 use lib.Dec.{eqb}
 use lib.ListN.{length, drop}
 use native.Mathlib.Omega.{arith}
@@ -12,7 +12,7 @@ use Rattle.text.specs.Split.{split}
 use Rattle.text.specs.Numbers.{naturalTo, every}
 use Rattle.job.specs.Stand.{Stand, placeAt}
 use Rattle.job.specs.Numbers.{gridIn, rayIn}
-use Rattle.job.specs.Line.{Step, stops, badLine, headRows, gridStep, densStep, rayStep, numbersStep, lineStep}
+use Rattle.job.specs.Line.{stops, badLine, headRows, gridStep, densStep, rayStep, numbersStep, lineStep}
 
 -- the place, by the tests of what is read; what is known at each
 abbrev pub by : Bool → Bool → ℕ

@@ -1,11 +1,10 @@
 -- What a line that is in its place comes to, as the code goes through it. Assumes nothing.
-use Prim.Native.Nat.{ℕ, _+_, _*_, _-_, _≤_, _<_}
-use mathlib.Core.Bool.{Bool, true, false, cond}
-use mathlib.Core.List.{List, [], _∷_, _++_, append-nil}
+use Prim.Native.Nat.{ℕ}
+use mathlib.Core.Bool.{Bool, false}
+use mathlib.Core.List.{List, _++_}
 use mathlib.Core.Option.{Option, none, some}
-use mathlib.Core.Path.{_≡_, refl, sym, ap, _∙_}
+use mathlib.Core.Path.{_≡_, refl, ap}
 use native.Mathlib.Omega.{arith}
-use lib.Dec.{eqb}
 use borrow.Author.Tests.{ne-eqb}
 use Rattle.ray.specs.declared.Grid.{Grid}
 use Rattle.ray.specs.declared.Ray.{Ray}
@@ -14,7 +13,7 @@ use Rattle.job.specs.declared.grid.GridLine.the-variants as grid
 use Rattle.job.specs.declared.rays.RayLine.{RayLine}
 use Rattle.job.specs.declared.rays.RayLine.the-variants as ray
 use Rattle.job.specs.Stand.{Stand}
-use Rattle.job.specs.Line.{Step, goes, stops, badLine, unless, gridCode, gridStep}
+use Rattle.job.specs.Line.{Step, goes, stops, badLine, unless}
 use Rattle.job.specs.Sound.{stepIs, after}
 use Rattle.job.specs.Read.{readGrid, readRay}
 

@@ -3,7 +3,7 @@ use Prim.Native.Nat.{ℕ, _+_, _*_, _^_, _≤_, _<_}
 use mathlib.Core.Bool.{Bool, true, false}
 use mathlib.Core.List.{List, [], _++_}
 use mathlib.Core.Path.{_≡_}
-use lib.ListN.{length, take}
+use lib.ListN.{take}
 use Rattle.axis.specs.Codes.{bench, first}
 use Rattle.ray.specs.declared.Grid.{Grid}
 use Rattle.ray.specs.Length.{volume, count}
@@ -39,7 +39,8 @@ pub record Lent (l d : ℕ) : Type 0 where
   pub line : 4096 ≤ l
   pub densities : 4096 ≤ d
 
--- the most that one line prints: a RAY line with 7 numbers and 600 CELL lines with 4, a number taking 21 bytes with its space
+-- The most that one line prints: a RAY line with 7 numbers and 600 CELL lines with 4, a number taking 21 bytes with its space,
+-- so 3 + 7·21 + 1 and 600 times 4 + 4·21 + 1.
 abbrev pub room : ℕ
 room = 53551
 

@@ -21,7 +21,7 @@ pub record Stand : Type 0 where
 abbrev noAxis : Axis
 noAxis = record { n = 0; d = 0; b = pos 0 }
 
-abbrev pub noGrid : Grid
+abbrev noGrid : Grid
 noGrid = record { x = noAxis; y = noAxis; z = noAxis }
 
 abbrev pub atFirst : Stand

@@ -1,5 +1,4 @@
 // Lines out of pieces of the input.
-ghost use mathlib.Core.Path.{_≡_};
 ghost use Prim.Native.Nat.{_≤_};
 ghost use lib.ListN.{length, take};
 ghost use Rattle.job.specs.Sound.{Begun};

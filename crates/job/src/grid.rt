@@ -1,10 +1,9 @@
 // A GRID line.
 ghost use mathlib.Core.Path.{_≡_};
 ghost use mathlib.Core.List.{List};
-ghost use Prim.Native.Nat.{ℕ, _≤_};
+ghost use Prim.Native.Nat.{ℕ};
 ghost use lib.ListN.{length, take};
 ghost use Rattle.text.specs.Split.{split};
-ghost use Rattle.ray.specs.Length.{count, volume};
 ghost use Rattle.job.specs.Stand.{standOf};
 ghost use Rattle.job.specs.Numbers.{gridIn};
 ghost use Rattle.job.specs.Line.{gridCode, gridStep};

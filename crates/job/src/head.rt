@@ -1,6 +1,5 @@
 // What is wrong with a line before its numbers are read.
 ghost use mathlib.Core.Path.{_≡_};
-ghost use Prim.Native.Nat.{_≤_};
 ghost use Rattle.axis.specs.Codes.{first};
 ghost use Rattle.text.specs.Split.{split};
 ghost use Rattle.job.specs.Line.{placeOf, fieldsAt, headRows};

@@ -1,6 +1,6 @@
 // The whole job on an input that lies in memory: one promise, bytes in and bytes out.
 ghost use mathlib.Core.Path.{_≡_};
-ghost use Prim.Native.Nat.{_+_, _≤_};
+ghost use Prim.Native.Nat.{_≤_};
 ghost use lib.ListN.{length, take};
 ghost use Rattle.job.specs.Job.{jobOf};
 ghost use Rattle.job.specs.Sound.{Lent, room};

@@ -1,3 +1,4 @@
+-- `trace::feed` meets its contract. The loop keeps `Fed`, and the lists keep their lengths. Assumes nothing.
 use Prim.Native.Nat.{_+_, _-_, _≤_}
 use mathlib.Core.Path.{_≡_, refl, _∙_}
 use native.Mathlib.Omega.{arith}
@@ -6,10 +7,6 @@ use Rattle.trace.specs.Feeding.{Fed}
 use Rattle.trace.proofs.Fed.{fed-on, fed-within}
 use Rattle.trace.proofs.feed.Statement.{statement}
 use Rattle.trace.proofs.feed.Tie as tie
-use Rattle.trace.proofs.feed.Reads as reads
-use Rattle.trace.proofs.feed.Lts as lts
-use Rattle.job.proofs.step.pump.Reads as pump-reads
-use Rattle.trace.proofs.spill.Reads as spill-reads
 
 abbrev Inv-loop : tie.InvT-loop
 Inv-loop line₀ piece densities₀ out₀ at m₀ next₀ line densities out m next =

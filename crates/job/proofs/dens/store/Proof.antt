@@ -1,3 +1,4 @@
+-- `job::dens::store` meets its contract. The loop keeps that the first i of the row are copied. Assumes nothing.
 use Prim.Native.Nat.{_+_, _-_, _≤_}
 use mathlib.Core.List.{_++_}
 use mathlib.Core.Path.{_≡_, refl, _∙_}
@@ -6,8 +7,6 @@ use lib.ListN.{length, take, length-set}
 use Rattle.text.proofs.Written.{copy-begins, copy-on}
 use Rattle.job.proofs.dens.store.Statement.{statement}
 use Rattle.job.proofs.dens.store.Tie as tie
-use Rattle.job.proofs.dens.store.Reads as reads
-use Rattle.job.proofs.dens.store.Lts as lts
 
 abbrev Inv-loop : tie.InvT-loop
 Inv-loop row n densities₀ at i₀ densities i = (i ≤ n) × (length densities ≡ length densities₀) × (take (at + i) densities ≡ take at densities₀ ++ take i row)

@@ -1,3 +1,4 @@
+-- `job::dens::take_dens` meets its contract. Assumes nothing.
 use mathlib.Core.List.{append-nil}
 use mathlib.Core.Path.{refl, sym, ap}
 use native.Mathlib.Omega.{arith}
@@ -11,11 +12,6 @@ use Rattle.job.proofs.Steps.{stopped, went}
 use borrow.Author.Needs.{needs}
 use Rattle.job.proofs.dens.take_dens.Statement.{statement}
 use Rattle.job.proofs.dens.take_dens.Tie as tie
-use Rattle.job.proofs.dens.take_dens.Reads as reads
-use Rattle.job.proofs.dens.take_dens.Lts as lts
-use Rattle.job.proofs.dens.store.Reads as store-reads
-use Rattle.job.proofs.state.State.refuse.Reads as refuse-reads
-use Rattle.text.proofs.numbers.naturals.Reads as naturals-reads
 
 cast-nx : tie.Need-cast-nx
 cast-nx c = search needs

@@ -1,3 +1,4 @@
+-- `job::grid::grid_in` meets its contract. Assumes nothing.
 use mathlib.Core.Path.{sym, _∙_}
 use lib.ListN.{drop}
 use Rattle.text.specs.Split.{split}
@@ -5,10 +6,6 @@ use Rattle.job.proofs.Fields.{plain, all-read, none-read, six-digits, g
 use borrow.Author.Needs.{needs}
 use Rattle.job.proofs.grid.grid_in.Statement.{statement}
 use Rattle.job.proofs.grid.grid_in.Tie as tie
-use Rattle.job.proofs.grid.grid_in.Reads as reads
-use Rattle.job.proofs.grid.grid_in.Lts as lts
-use Rattle.text.proofs.numbers.integers.Reads as integers-reads
-use Rattle.text.proofs.numbers.naturals.Reads as naturals-reads
 
 slice-aggregate-naturals : tie.Need-slice-aggregate-naturals
 slice-aggregate-naturals c = search needs

@@ -1,3 +1,4 @@
+-- `job::grid::take_grid` meets its contract. Assumes nothing.
 use mathlib.Core.List.{append-nil}
 use mathlib.Core.Path.{_≡_, refl, sym, ap, _∙_}
 use native.Mathlib.Omega.{arith}
@@ -11,11 +12,6 @@ use Rattle.job.proofs.Steps.{stopped, went, refused-by, passed-by, grid
 use borrow.Author.Needs.{needs}
 use Rattle.job.proofs.grid.take_grid.Statement.{statement}
 use Rattle.job.proofs.grid.take_grid.Tie as tie
-use Rattle.job.proofs.grid.take_grid.Reads as reads
-use Rattle.job.proofs.grid.take_grid.Lts as lts
-use Rattle.job.proofs.grid.grid_in.Reads as grid-in-reads
-use Rattle.job.proofs.grid.taken_code.Reads as taken-code-reads
-use Rattle.job.proofs.state.State.refuse.Reads as refuse-reads
 
 grid-in-requires : tie.Need-grid-in-requires
 grid-in-requires c κs = search needs

@@ -1,3 +1,4 @@
+-- `job::grid::taken_code` meets its contract. Assumes nothing.
 use mathlib.Core.Path.{_≡_, refl, sym, _∙_}
 use native.Mathlib.Omega.{arith}
 use borrow.Author.Tests.{ne-eqb, lt-ltb, le-ltb}
@@ -8,9 +9,6 @@ use Rattle.job.proofs.Taking.{code-then, sides, rows-fit, voxels-fit}
 use borrow.Author.Needs.{needs}
 use Rattle.job.proofs.grid.taken_code.Statement.{statement}
 use Rattle.job.proofs.grid.taken_code.Tie as tie
-use Rattle.job.proofs.grid.taken_code.Reads as reads
-use Rattle.job.proofs.grid.taken_code.Lts as lts
-use Rattle.ray.proofs.check.grid_code.Reads as grid-code-reads
 
 grid-code-requires : tie.Need-grid-code-requires
 grid-code-requires c κs = search needs

@@ -1,9 +1,8 @@
+-- `job::head::fields_at` meets its contract. Assumes nothing.
 use borrow.Author.Tests.{eq-eqb, ne-eqb}
 use borrow.Author.Needs.{needs}
 use Rattle.job.proofs.head.fields_at.Statement.{statement}
 use Rattle.job.proofs.head.fields_at.Tie as tie
-use Rattle.job.proofs.head.fields_at.Reads as reads
-use Rattle.job.proofs.head.fields_at.Lts as lts
 
 returns : tie.Need-returns
 returns c = simp (eq-eqb _ _ (c .if1 .taken))

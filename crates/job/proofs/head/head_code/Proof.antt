@@ -1,3 +1,4 @@
+-- `job::head::head_code` meets its contract. Assumes nothing.
 use mathlib.Core.Path.{sym, ap, _∙_}
 use Rattle.text.specs.Split.{split}
 use Rattle.job.specs.Line.{placeOf}
@@ -5,12 +6,6 @@ use Rattle.job.proofs.Refusals.{unknown, misplaced, miscounted, well-he
 use borrow.Author.Needs.{needs}
 use Rattle.job.proofs.head.head_code.Statement.{statement}
 use Rattle.job.proofs.head.head_code.Tie as tie
-use Rattle.job.proofs.head.head_code.Reads as reads
-use Rattle.job.proofs.head.head_code.Lts as lts
-use Rattle.job.proofs.head.fields_at.Reads as fields-at-reads
-use Rattle.job.proofs.head.place_of.Reads as place-of-reads
-use Rattle.text.proofs.fields.count.Reads as count-reads
-use Rattle.text.proofs.word.first_word.Reads as first-word-reads
 
 first-word-requires : tie.Need-first-word-requires
 first-word-requires c κs = search needs

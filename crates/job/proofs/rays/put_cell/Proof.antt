@@ -1,12 +1,10 @@
+-- `job::rays::put_cell` meets its contract. Assumes nothing.
 use Prim.Native.Nat.{_/_}
 use native.Mathlib.Nat.{mod-le, div-le-self}
 use native.Mathlib.Omega.{arith}
 use borrow.Author.Needs.{needs}
 use Rattle.job.proofs.rays.put_cell.Statement.{statement}
 use Rattle.job.proofs.rays.put_cell.Tie as tie
-use Rattle.job.proofs.rays.put_cell.Reads as reads
-use Rattle.job.proofs.rays.put_cell.Lts as lts
-use Rattle.text.proofs.put.put_line.Reads as put-line-reads
 
 rem-i : tie.Need-rem-i
 rem-i c = search needs

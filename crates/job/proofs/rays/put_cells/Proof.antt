@@ -1,3 +1,4 @@
+-- `job::rays::put_cells` meets its contract. The loop keeps `Printing`. Assumes nothing.
 use Prim.Native.Nat.{_-_}
 use native.Mathlib.Omega.{arith}
 use lib.ListN.{length}
@@ -5,9 +6,6 @@ use Rattle.ray.specs.Length.{volume}
 use Rattle.job.proofs.Printing.{Printing, cells-begin, cells-on, cells-end}
 use Rattle.job.proofs.rays.put_cells.Statement.{statement}
 use Rattle.job.proofs.rays.put_cells.Tie as tie
-use Rattle.job.proofs.rays.put_cells.Reads as reads
-use Rattle.job.proofs.rays.put_cells.Lts as lts
-use Rattle.job.proofs.rays.put_cell.Reads as put-cell-reads
 
 abbrev Inv-loop : tie.InvT-loop
 Inv-loop g voxels parts out₀ at e₀ to₀ out e to = Printing (volume g) voxels parts out₀ at out e to

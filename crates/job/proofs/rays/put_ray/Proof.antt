@@ -1,3 +1,4 @@
+-- `job::rays::put_ray` meets its contract. Assumes nothing.
 use mathlib.Core.Path.{sym, _∙_}
 use native.Mathlib.Omega.{arith}
 use lib.ListN.{take}
@@ -6,11 +7,6 @@ use Rattle.job.proofs.Printing.{first-of, ray-printed}
 use borrow.Author.Needs.{needs}
 use Rattle.job.proofs.rays.put_ray.Statement.{statement}
 use Rattle.job.proofs.rays.put_ray.Tie as tie
-use Rattle.job.proofs.rays.put_ray.Reads as reads
-use Rattle.job.proofs.rays.put_ray.Lts as lts
-use Rattle.job.proofs.rays.put_cells.Reads as put-cells-reads
-use Rattle.job.proofs.rays.traced_ray.Reads as traced-ray-reads
-use Rattle.text.proofs.put.put_line.Reads as put-line-reads
 
 slice-aggregate-traced-ray : tie.Need-slice-aggregate-traced-ray
 slice-aggregate-traced-ray c = search needs

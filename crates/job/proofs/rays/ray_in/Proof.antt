@@ -1,11 +1,9 @@
+-- `job::rays::ray_in` meets its contract. Assumes nothing.
 use Rattle.text.specs.Split.{split}
 use Rattle.job.proofs.Fields.{plain, all-read, none-read, ray-read, ray-bad}
 use borrow.Author.Needs.{needs}
 use Rattle.job.proofs.rays.ray_in.Statement.{statement}
 use Rattle.job.proofs.rays.ray_in.Tie as tie
-use Rattle.job.proofs.rays.ray_in.Reads as reads
-use Rattle.job.proofs.rays.ray_in.Lts as lts
-use Rattle.text.proofs.numbers.integers.Reads as integers-reads
 
 slice-aggregate-integers : tie.Need-slice-aggregate-integers
 slice-aggregate-integers c = search needs

@@ -1,3 +1,4 @@
+-- `job::rays::take_ray` meets its contract. Assumes nothing.
 use mathlib.Core.Path.{_≡_, refl, sym, ap, _∙_}
 use native.Mathlib.Omega.{arith}
 use lib.ListN.{length, take}
@@ -11,11 +12,6 @@ use Rattle.job.proofs.Steps.{stopped, went, ray-none, ray-some}
 use borrow.Author.Needs.{needs}
 use Rattle.job.proofs.rays.take_ray.Statement.{statement}
 use Rattle.job.proofs.rays.take_ray.Tie as tie
-use Rattle.job.proofs.rays.take_ray.Reads as reads
-use Rattle.job.proofs.rays.take_ray.Lts as lts
-use Rattle.job.proofs.rays.put_ray.Reads as put-ray-reads
-use Rattle.job.proofs.rays.ray_in.Reads as ray-in-reads
-use Rattle.job.proofs.state.State.refuse.Reads as refuse-reads
 
 ray-in-requires : tie.Need-ray-in-requires
 ray-in-requires c κs = search needs

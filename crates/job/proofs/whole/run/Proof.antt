@@ -1,3 +1,4 @@
+-- `job::whole::run` meets its contract. The loop keeps `Running`, and the lists keep their lengths. Assumes nothing.
 use Prim.Native.Nat.{_+_, _-_, _≤_}
 use mathlib.Core.List.{[], _++_}
 use mathlib.Core.Path.{_≡_, refl, sym, _∙_}
@@ -10,12 +11,6 @@ use Rattle.job.specs.Sound.{more}
 use Rattle.job.proofs.Running.{Running, answer-length, none-later, nothing-left, run-begins, run-short, run-ends, run-on}
 use Rattle.job.proofs.whole.run.Statement.{statement}
 use Rattle.job.proofs.whole.run.Tie as tie
-use Rattle.job.proofs.whole.run.Reads as reads
-use Rattle.job.proofs.whole.run.Lts as lts
-use Rattle.job.proofs.state.State.new.Reads as new-reads
-use Rattle.job.proofs.step.finish.Reads as finish-reads
-use Rattle.job.proofs.step.pump.Reads as pump-reads
-use Rattle.text.proofs.put.put_bytes.Reads as put-bytes-reads
 
 abbrev Inv-loop : tie.InvT-loop
 Inv-loop input line₀ densities₀ answer₀ out₀ st₀ next₀ to₀ line densities answer out st next to =

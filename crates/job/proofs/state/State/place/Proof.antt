@@ -1,8 +1,7 @@
+-- `job::state::State::place` meets its contract. Assumes nothing.
 use borrow.Author.Tests.{eq-eqb, ne-eqb}
 use Rattle.job.proofs.state.State.place.Statement.{statement}
 use Rattle.job.proofs.state.State.place.Tie as tie
-use Rattle.job.proofs.state.State.place.Reads as reads
-use Rattle.job.proofs.state.State.place.Lts as lts
 
 returns : tie.Need-returns
 returns c = simp (eq-eqb _ _ (c .if1 .taken))

@@ -1,11 +1,9 @@
+-- `job::state::State::refuse` meets its contract. Assumes nothing.
 use mathlib.Core.Path.{refl}
 use native.Mathlib.Omega.{arith}
 use borrow.Author.Needs.{needs}
 use Rattle.job.proofs.state.State.refuse.Statement.{statement}
 use Rattle.job.proofs.state.State.refuse.Tie as tie
-use Rattle.job.proofs.state.State.refuse.Reads as reads
-use Rattle.job.proofs.state.State.refuse.Lts as lts
-use Rattle.text.proofs.put.put_line.Reads as put-line-reads
 
 add-number : tie.Need-add-number
 add-number c = search needs
