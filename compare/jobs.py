@@ -5,12 +5,10 @@
 """
 from __future__ import annotations
 
-import argparse
 import os
 import subprocess
 import tempfile
 from concurrent.futures import ThreadPoolExecutor
-from pathlib import Path
 from random import Random
 from typing import Iterator, NamedTuple
 
@@ -133,10 +131,7 @@ def broken_streams(tally: Tally, command: list[str]) -> None:
 
 
 def main() -> None:
-    words = argparse.ArgumentParser(description=__doc__.splitlines()[0] if __doc__ else None)
-    words.add_argument("--seed", type=int, default=1)
-    words.add_argument("--program", type=Path, default=machine.TARGET / "bin" / "trace")
-    asked = words.parse_args()
+    asked = machine.asked(__doc__, program=machine.TARGET / "bin" / "trace")
     command = machine.words(asked.program)
     tally = Tally()
     listed = list(cases(Random(asked.seed)))

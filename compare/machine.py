@@ -1,8 +1,10 @@
 """Where the built programs are, and how this machine runs them (see the file x86 beside this one)."""
 from __future__ import annotations
 
+import argparse
 import subprocess
 from pathlib import Path
+from typing import Optional
 
 HERE = Path(__file__).resolve().parent
 ROOT = HERE.parent
@@ -23,3 +25,12 @@ def room() -> Path:
     found = TARGET / "compare"
     found.mkdir(parents=True, exist_ok=True)
     return found
+
+
+def asked(about: Optional[str], **paths: Path) -> argparse.Namespace:
+    """The words of a comparison's command: the seed, and where what it runs is to be found."""
+    words = argparse.ArgumentParser(description=(about or "").split("\n")[0])
+    words.add_argument("--seed", type=int, default=1)
+    for name, path in paths.items():
+        words.add_argument(f"--{name}", type=Path, default=path)
+    return words.parse_args()

@@ -95,7 +95,3 @@ def ray(dice: Random, of: Grid) -> Ray:
         found = straight(dice, of)
         if found.p != found.q:
             return found
-
-
-def turned(of: Ray) -> Ray:
-    return Ray(of.q, of.p)

@@ -1,13 +1,13 @@
 #!/usr/bin/env python3
 """Holds the independent program to document 01's own figures, and its two methods to each other.
 
-python3 compare/selftest.py [SEED]
+    python3 compare/selftest.py [--seed SEED]
 """
 from __future__ import annotations
 
-import sys
 from random import Random
 
+import machine
 import scenes
 from oracle import (
     Axis, Entry, Grid, Lent, Ray, answer, by_planes, by_voxels, crossed, place, points, trace, window,
@@ -75,7 +75,7 @@ def consistent(grid: Grid, ray: Ray) -> bool:
 
 
 def main() -> None:
-    seed = int(sys.argv[1]) if len(sys.argv) > 1 else 1
+    seed = machine.asked(__doc__).seed
     dice = Random(seed)
     tally = Tally()
     figures(tally)
