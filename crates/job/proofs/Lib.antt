@@ -14,4 +14,3 @@ pub mod Ending
 pub mod Turns
 pub mod Running
 pub mod Tracing
-pub mod Once
