@@ -78,7 +78,7 @@ fn wide(tried: &[u8], p: End, q: End, expected: [f64; 8]) {
     run(tried, Grid { x: a, y: a, z: a }, Ray { p, q }, expected);
 }
 
-fn bench_rays() {
+fn rays_a_to_e() {
     bench(
         b"A",
         end(-10, 5, 5),
@@ -109,6 +109,9 @@ fn bench_rays() {
         end(10, 30, 5),
         [0.25, 0.75, 10.0, 0.0, 5.0, 10.0, 20.0, 5.0],
     );
+}
+
+fn rays_f_to_j() {
     bench(
         b"F",
         end(30, -10, 5),
@@ -139,6 +142,10 @@ fn bench_rays() {
         end(5, 5, 5),
         [0.0, 1.0, 10.0, 5.0, 5.0, 5.0, 5.0, 5.0],
     );
+}
+
+// Places that are no plane's, and a refused ray.
+fn other_rays() {
     bench(
         b"quarter",
         end(-10, 5, 5),
@@ -196,6 +203,9 @@ fn wide_rays() {
         end(16383, -16383, 2),
         [0.0, 1.0, 16384.0, -16384.0, 3.0, 16383.0, -16383.0, 2.0],
     );
+}
+
+fn rays_at_edges() {
     wide(
         b"low edge",
         end(-16384, -16384, -16384),
@@ -226,6 +236,9 @@ fn wide_rays() {
 }
 
 fn main() {
-    bench_rays();
+    rays_a_to_e();
+    rays_f_to_j();
+    other_rays();
     wide_rays();
+    rays_at_edges();
 }

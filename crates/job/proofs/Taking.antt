@@ -1,7 +1,6 @@
 -- What a grid that the job takes may be relied on for. Assumes nothing.
 use Prim.Native.Nat.{ℕ, zero, suc, _+_, _*_, _≤_, _<_}
 use mathlib.Core.Bool.{Bool, true, false, cond, _||_}
-use mathlib.Core.List.{[], _∷_}
 use mathlib.Core.Path.{_≡_, refl, sym, _∙_}
 use lib.Dec.{eqb, ltb}
 use native.Mathlib.Nat.{mul-le-mul, mul-le-mul-left, mul-le-mul-right, mul-assoc, mul-comm, mul-left-comm}
@@ -9,21 +8,12 @@ use native.Mathlib.Decide.{decLe}
 use native.Mathlib.Omega.{arith}
 use borrow.Author.Tests.{ltb-false, ne-eqb}
 use Rattle.axis.specs.declared.Axis.{Axis}
-use Rattle.axis.specs.Codes.{bench, row, first, planesOut}
+use Rattle.axis.specs.Codes.{bench, first, planesOut}
 use Rattle.ray.specs.declared.Grid.{Grid}
 use Rattle.ray.specs.Length.{X, Y, Z, volume, count}
 use Rattle.ray.specs.Codes.{gridRows}
-use Rattle.ray.proofs.Accepted.{axes-ok}
+use Rattle.ray.proofs.Accepted.{axes-ok, grid-then}
 use Rattle.job.specs.Line.{gridCode}
-
-abbrev table : Bool → Bool → Bool → ℕ
-table s t u = first (row 1 s ∷ row 2 t ∷ row 3 u ∷ [])
-
-behind-table : (s t u : Bool) (rest : ℕ) → cond s 1 (cond t 2 (cond u 3 rest)) ≡ cond (eqb (table s t u) 0) rest (table s t u)
-behind-table true t u rest = refl
-behind-table false true u rest = refl
-behind-table false false true rest = refl
-behind-table false false false rest = refl
 
 pub record Sides (nx ny nz : ℕ) : Type 0 where
   pub x : (0 < nx) × (nx ≤ 512)
@@ -42,7 +32,7 @@ module _ (g : Grid) where
 
   -- 25 stands behind 1, 2 and 3
   pub code-then : gridCode g ≡ cond (eqb (first (gridRows bench g)) 0) (cond (ltb 4096 (count (volume g))) 25 0) (first (gridRows bench g))
-  code-then = behind-table (some noN) (some noD) (some (planesOut bench)) (cond (ltb 4096 (count (volume g))) 25 0)
+  code-then = grid-then (some noN) (some noD) (some (planesOut bench)) (cond (ltb 4096 (count (volume g))) 25 0)
 
   -- the job takes a grid that no code refuses
   pub code-zero : gridCode g ≡ 0 → (first (gridRows bench g) ≡ 0) × (count (volume g) ≤ 4096)
