@@ -1,4 +1,6 @@
-use mathlib.Core.Path.{sym, _∙_}
+use mathlib.Core.Path.{_≡_, sym, _∙_}
+use mathlib.Core.Bool.{true, _||_}
+use lib.Dec.{eqb, ltb}
 use borrow.Author.Needs.{needs}
 use Rattle.axis.proofs.Axis.code.Statement.{statement}
 use Rattle.axis.proofs.Axis.code.Tie as tie
@@ -7,7 +9,10 @@ beyond-requires : tie.Need-beyond-requires
 beyond-requires c κs = search needs
 
 returns : tie.Need-returns
-returns c = rw (sym (c .before .beyond .ensures) ∙ c .if1 .taken)
+returns c =
+    let n = c .before .before .args .self .n in
+    let out : (eqb n 0 || ltb 512 n) ≡ true = sym (c .before .beyond .ensures) ∙ c .if1 .taken in
+    rw out
 
 beyond-requires-2 : tie.Need-beyond-requires-2
 beyond-requires-2 c κs = search needs
