@@ -9,7 +9,7 @@ use lib.IntN.{ℤ}
 use Rattle.axis.specs.Leg.{moving, factor, run, Slab, held, enters, leaves}
 use Rattle.ray.specs.declared.Ray.{Ray}
 use Rattle.ray.specs.Length.{Side, X, Y, Z, leg, dOf, rest, Volume, voxel, holds, start, stop, partOf}
-use Rattle.ray.proofs.Through.{Rises, max-rises, min-rises, max-rises-3, min-rises-3, min-cap-rises, times-rises}
+use Rattle.ray.proofs.Through.{Rises, max-rises, min-rises, through-3, min-cap-rises, times-rises}
 use Rattle.ray.proofs.Way.{passed, factor-pos}
 
 -- α times D of the place c on a side, at most D
@@ -84,12 +84,12 @@ module _ (r : Ray) where
 
   pub begin-sides : (b : Side → Slab) → begin r b ≡ max (enter r X (b X)) (max (enter r Y (b Y)) (enter r Z (b Z)))
   begin-sides b =
-      sym (max-rises-3 (min (dOf r)) (min-cap-rises (dOf r)) (enters (rest r X) (leg r X) (b X)) (enters (rest r Y) (leg r Y) (b Y)) (enters (rest r Z) (leg r Z) (b Z)))
+      sym (through-3 (min (dOf r)) max max (max-rises (min (dOf r)) (min-cap-rises (dOf r))) (enters (rest r X) (leg r X) (b X)) (enters (rest r Y) (leg r Y) (b Y)) (enters (rest r Z) (leg r Z) (b Z)))
       ∙ rw (cap-enter X (b X), cap-enter Y (b Y), cap-enter Z (b Z))
 
   pub stop-sides : (b : Side → Slab) → stop r b ≡ min (leave r X (b X)) (min (leave r Y (b Y)) (leave r Z (b Z)))
   stop-sides b =
-      sym (min-rises-3 (min (dOf r)) (min-cap-rises (dOf r)) (leaves (rest r X) (leg r X) (b X)) (leaves (rest r Y) (leg r Y) (b Y)) (leaves (rest r Z) (leg r Z) (b Z)))
+      sym (through-3 (min (dOf r)) min min (min-rises (min (dOf r)) (min-cap-rises (dOf r))) (leaves (rest r X) (leg r X) (b X)) (leaves (rest r Y) (leg r Y) (b Y)) (leaves (rest r Z) (leg r Z) (b Z)))
       ∙ rw (cap-leave X (b X), cap-leave Y (b Y), cap-leave Z (b Z))
 
   pub part-held : (b : Side → Slab) → holds r b ≡ true → part r b ≡ stop r b - begin r b
@@ -149,15 +149,15 @@ module _
   pub begin-as : (b : Side → Slab) → g (begin r′ b) ≡ h (begin r b)
   begin-as b =
       ap g (begin-sides r′ b)
-      ∙ sym (max-rises-3 g g-rises (enter r′ X (b X)) (enter r′ Y (b Y)) (enter r′ Z (b Z)))
+      ∙ sym (through-3 g max max (max-rises g g-rises) (enter r′ X (b X)) (enter r′ Y (b Y)) (enter r′ Z (b Z)))
       ∙ rw (enter-as X (b X), enter-as Y (b Y), enter-as Z (b Z))
-      (max-rises-3 h h-rises (enter r X (b X)) (enter r Y (b Y)) (enter r Z (b Z)))
+      (through-3 h max max (max-rises h h-rises) (enter r X (b X)) (enter r Y (b Y)) (enter r Z (b Z)))
       ∙ sym (ap h (begin-sides r b))
 
   pub stop-as : (b : Side → Slab) → g (stop r′ b) ≡ h (stop r b)
   stop-as b =
       ap g (stop-sides r′ b)
-      ∙ sym (min-rises-3 g g-rises (leave r′ X (b X)) (leave r′ Y (b Y)) (leave r′ Z (b Z)))
+      ∙ sym (through-3 g min min (min-rises g g-rises) (leave r′ X (b X)) (leave r′ Y (b Y)) (leave r′ Z (b Z)))
       ∙ rw (leave-as X (b X), leave-as Y (b Y), leave-as Z (b Z))
-      (min-rises-3 h h-rises (leave r X (b X)) (leave r Y (b Y)) (leave r Z (b Z)))
+      (through-3 h min min (min-rises h h-rises) (leave r X (b X)) (leave r Y (b Y)) (leave r Z (b Z)))
       ∙ sym (ap h (stop-sides r b))

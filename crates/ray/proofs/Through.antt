@@ -1,7 +1,7 @@
 -- The least and the greatest of two numbers, seen through a function that rises or falls. Assumes nothing.
 use Prim.Native.Nat.{ℕ, _-_, _*_, _≤_, min, max}
 use mathlib.Core.Path.{_≡_, sym, ap, _∙_}
-use native.Mathlib.Nat.{min-eq-left, min-eq-right, max-eq-left, max-eq-right, mul-le-mul-right, mul-sub, mul-comm}
+use native.Mathlib.Nat.{min-comm, max-comm, min-eq-left, min-eq-right, max-eq-left, max-eq-right, mul-le-mul-right, mul-sub, mul-comm}
 use native.Mathlib.Omega.{arith}
 use native.Mathlib.Decide.{decLe}
 
@@ -11,43 +11,33 @@ Rises h = (x y : ℕ) → x ≤ y → h x ≤ h y
 abbrev pub Falls : (ℕ → ℕ) → Type 0
 Falls h = (x y : ℕ) → x ≤ y → h y ≤ h x
 
+-- f of two values of h is h of g of the two
+abbrev pub Through : (ℕ → ℕ) → (f g : ℕ → ℕ → ℕ) → Type 0
+Through h f g = (x y : ℕ) → f (h x) (h y) ≡ h (g x y)
+
+pub through-3 : (h : ℕ → ℕ) (f g : ℕ → ℕ → ℕ) → Through h f g → (x y z : ℕ) → f (h x) (f (h y) (h z)) ≡ h (g x (g y z))
+through-3 h f g e x y z = ap (f (h x)) (e y z) ∙ e x (g y z)
+
+-- where neither f nor g asks for an order, one order of the two is enough
+in-order : (h : ℕ → ℕ) (f g : ℕ → ℕ → ℕ) → ((a b : ℕ) → f a b ≡ f b a) → ((a b : ℕ) → g a b ≡ g b a) → ((x y : ℕ) → x ≤ y → f (h x) (h y) ≡ h (g x y)) → Through h f g
+in-order h f g u v e x y = elim (decLe x y) [
+  | yes l ↦ e x y l
+  | no l ↦ u (h x) (h y) ∙ e y x (omega arith) ∙ ap h (v y x)
+]
+
 module _ (h : ℕ → ℕ) (rises : Rises h) where
-  pub max-rises : (x y : ℕ) → max (h x) (h y) ≡ h (max x y)
-  max-rises x y = elim (decLe x y) [
-    | yes l ↦ max-eq-right (rises x y l) ∙ sym (ap h (max-eq-right l))
-    | no l ↦ max-eq-left (rises y x (omega arith)) ∙ sym (ap h (max-eq-left (omega arith)))
-  ]
+  pub max-rises : Through h max max
+  max-rises = in-order h max max max-comm max-comm (λ x y l. max-eq-right (rises x y l) ∙ sym (ap h (max-eq-right l)))
 
-  pub min-rises : (x y : ℕ) → min (h x) (h y) ≡ h (min x y)
-  min-rises x y = elim (decLe x y) [
-    | yes l ↦ min-eq-left (rises x y l) ∙ sym (ap h (min-eq-left l))
-    | no l ↦ min-eq-right (rises y x (omega arith)) ∙ sym (ap h (min-eq-right (omega arith)))
-  ]
-
-  pub max-rises-3 : (x y z : ℕ) → max (h x) (max (h y) (h z)) ≡ h (max x (max y z))
-  max-rises-3 x y z = ap (max (h x)) (max-rises y z) ∙ max-rises x (max y z)
-
-  pub min-rises-3 : (x y z : ℕ) → min (h x) (min (h y) (h z)) ≡ h (min x (min y z))
-  min-rises-3 x y z = ap (min (h x)) (min-rises y z) ∙ min-rises x (min y z)
+  pub min-rises : Through h min min
+  min-rises = in-order h min min min-comm min-comm (λ x y l. min-eq-left (rises x y l) ∙ sym (ap h (min-eq-left l)))
 
 module _ (h : ℕ → ℕ) (falls : Falls h) where
-  pub max-falls : (x y : ℕ) → max (h x) (h y) ≡ h (min x y)
-  max-falls x y = elim (decLe x y) [
-    | yes l ↦ max-eq-left (falls x y l) ∙ sym (ap h (min-eq-left l))
-    | no l ↦ max-eq-right (falls y x (omega arith)) ∙ sym (ap h (min-eq-right (omega arith)))
-  ]
+  pub max-falls : Through h max min
+  max-falls = in-order h max min max-comm min-comm (λ x y l. max-eq-left (falls x y l) ∙ sym (ap h (min-eq-left l)))
 
-  pub min-falls : (x y : ℕ) → min (h x) (h y) ≡ h (max x y)
-  min-falls x y = elim (decLe x y) [
-    | yes l ↦ min-eq-right (falls x y l) ∙ sym (ap h (max-eq-right l))
-    | no l ↦ min-eq-left (falls y x (omega arith)) ∙ sym (ap h (max-eq-left (omega arith)))
-  ]
-
-  pub max-falls-3 : (x y z : ℕ) → max (h x) (max (h y) (h z)) ≡ h (min x (min y z))
-  max-falls-3 x y z = ap (max (h x)) (max-falls y z) ∙ max-falls x (min y z)
-
-  pub min-falls-3 : (x y z : ℕ) → min (h x) (min (h y) (h z)) ≡ h (max x (max y z))
-  min-falls-3 x y z = ap (min (h x)) (min-falls y z) ∙ min-falls x (max y z)
+  pub min-falls : Through h min max
+  min-falls = in-order h min max min-comm max-comm (λ x y l. min-eq-right (falls x y l) ∙ sym (ap h (max-eq-right l)))
 
 pub min-cap-rises : (d : ℕ) → Rises (min d)
 min-cap-rises d x y l = omega arith

@@ -15,7 +15,7 @@ use Rattle.axis.proofs.Shift.{shift, Low}
 use Rattle.ray.specs.declared.Ray.{Ray}
 use Rattle.ray.specs.Length.{Side, X, Y, Z, leg, dOf, rest, squaredOf, Volume, count, array, voxel, holds, start, stop, partOf, misses, spanOf, total, sumOf, crosses, crossedOf}
 use Rattle.ray.proofs.Total.{total-same}
-use Rattle.ray.proofs.Through.{max-falls, min-falls, max-falls-3, min-falls-3, sub-times}
+use Rattle.ray.proofs.Through.{max-falls, min-falls, through-3, sub-times}
 use Rattle.ray.proofs.Down.{down-falls, gap-down, leb-down, later, crossing-down}
 use Rattle.ray.proofs.Told.{neg-diff}
 use Rattle.ray.proofs.Way.{Way, up, down, still, Goes, moving-by, factor-by, run-by, passed, told, still-same}
@@ -125,14 +125,14 @@ module _ (r : Ray) where
   begin-turned b =
       begin-sides (turned r) b
       ∙ rw (enter-turned X (b X), enter-turned Y (b Y), enter-turned Z (b Z))
-      (max-falls-3 (λ x. dOf r - x) (down-falls (dOf r)) (leave r X (b X)) (leave r Y (b Y)) (leave r Z (b Z)))
+      (through-3 (λ x. dOf r - x) max min (max-falls (λ x. dOf r - x) (down-falls (dOf r))) (leave r X (b X)) (leave r Y (b Y)) (leave r Z (b Z)))
       ∙ ap (λ (x : ℕ). dOf r - x) (sym (stop-sides r b))
 
   pub stop-turned : (b : Side → Slab) → stop (turned r) b ≡ dOf r - begin r b
   stop-turned b =
       stop-sides (turned r) b
       ∙ rw (leave-turned X (b X), leave-turned Y (b Y), leave-turned Z (b Z))
-      (min-falls-3 (λ x. dOf r - x) (down-falls (dOf r)) (enter r X (b X)) (enter r Y (b Y)) (enter r Z (b Z)))
+      (through-3 (λ x. dOf r - x) min max (min-falls (λ x. dOf r - x) (down-falls (dOf r))) (enter r X (b X)) (enter r Y (b Y)) (enter r Z (b Z)))
       ∙ ap (λ (x : ℕ). dOf r - x) (sym (begin-sides r b))
 
   -- the same, capped at the ray's own D
