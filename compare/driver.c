@@ -37,13 +37,24 @@ static void fail(const char *told)
 
 static uint8_t pattern(uint32_t salt, size_t at) { return (uint8_t)(salt + 37 * at); }
 
-static struct block filled(size_t bytes, uint32_t salt)
+static struct block room_for(size_t bytes)
 {
     struct block made = {malloc(bytes + 2 * margin), bytes + 2 * margin};
     if (made.memory == NULL && made.size > 0)
         fail("no memory");
-    for (size_t at = 0; at < made.size; at++)
-        made.memory[at] = pattern(salt, at);
+    return made;
+}
+
+static void fill(struct block of, size_t from, size_t to, uint32_t salt)
+{
+    for (size_t at = from; at < to; at++)
+        of.memory[at] = pattern(salt, at);
+}
+
+static struct block filled(size_t bytes, uint32_t salt)
+{
+    struct block made = room_for(bytes);
+    fill(made, 0, made.size, salt);
     return made;
 }
 
@@ -89,7 +100,9 @@ static void fill_array(const struct request *r)
         check_array();
         free(array.memory);
     }
-    array = filled(2 * r->densities, r->salt);
+    array = room_for(sizeof(uint16_t) * r->densities);
+    fill(array, 0, margin, r->salt);
+    fill(array, array.size - margin, array.size, r->salt);
     filled_for = *r;
     uint16_t *densities = (uint16_t *)(array.memory + margin);
     for (size_t voxel = 0; voxel < r->densities; voxel++)

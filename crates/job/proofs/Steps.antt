@@ -3,9 +3,9 @@ use Prim.Native.Nat.{ℕ}
 use mathlib.Core.Bool.{Bool, false}
 use mathlib.Core.List.{List, _++_}
 use mathlib.Core.Option.{Option, none, some}
-use mathlib.Core.Path.{_≡_, refl, ap}
-use native.Mathlib.Omega.{arith}
+use mathlib.Core.Path.{_≡_, refl}
 use borrow.Author.Tests.{ne-eqb}
+use Rattle.text.proofs.Told.{told}
 use Rattle.ray.specs.declared.Grid.{Grid}
 use Rattle.ray.specs.declared.Ray.{Ray}
 use Rattle.job.specs.declared.grid.GridLine.{GridLine}
@@ -32,18 +32,16 @@ pub passed-by : (lines : ℕ) {code : ℕ} (step : Step) → code ≡ 0 → unle
 passed-by lines step h = rw h refl
 
 -- the readers' answers, read back
-pub grid-none : {r : GridLine} (o : Option Grid) → r ≡ readGrid o → r ≡ grid.Bad → o ≡ none
-grid-none none e f = refl
-grid-none (some g) e f = let z : _≡_ {A = ℕ} 0 1 = cc in absurd (omega arith)
+abbrev ofGrid : GridLine → Option Grid
+ofGrid (grid.Axes g) = some g
+ofGrid grid.Bad = none
 
-pub grid-some : {r : GridLine} {g : Grid} (o : Option Grid) → r ≡ readGrid o → r ≡ grid.Axes g → o ≡ some g
-grid-some none e f = let z : _≡_ {A = ℕ} 0 1 = cc in absurd (omega arith)
-grid-some {g = g} (some g′) e f = let same : g′ ≡ g = cc in ap some same
+pub grid-told : (o : Option Grid) {r : GridLine} (a : GridLine) → r ≡ readGrid o → r ≡ a → o ≡ ofGrid a
+grid-told = told readGrid ofGrid (λ o. elim o [ none ↦ refl | some g ↦ refl ])
 
-pub ray-none : {r : RayLine} (o : Option Ray) → r ≡ readRay o → r ≡ ray.Bad → o ≡ none
-ray-none none e f = refl
-ray-none (some r) e f = let z : _≡_ {A = ℕ} 0 1 = cc in absurd (omega arith)
+abbrev ofRay : RayLine → Option Ray
+ofRay (ray.Ends r) = some r
+ofRay ray.Bad = none
 
-pub ray-some : {r : RayLine} {ends : Ray} (o : Option Ray) → r ≡ readRay o → r ≡ ray.Ends ends → o ≡ some ends
-ray-some none e f = let z : _≡_ {A = ℕ} 0 1 = cc in absurd (omega arith)
-ray-some {ends = r} (some r′) e f = let same : r′ ≡ r = cc in ap some same
+pub ray-told : (o : Option Ray) {r : RayLine} (a : RayLine) → r ≡ readRay o → r ≡ a → o ≡ ofRay a
+ray-told = told readRay ofRay (λ o. elim o [ none ↦ refl | some r ↦ refl ])

@@ -9,7 +9,7 @@ use lib.IntN.{ℤ}
 use Rattle.axis.specs.Leg.{moving, factor, run, Slab, held, enters, leaves}
 use Rattle.ray.specs.declared.Ray.{Ray}
 use Rattle.ray.specs.Length.{Side, X, Y, Z, leg, dOf, rest, Volume, voxel, holds, start, stop, partOf}
-use Rattle.ray.proofs.Through.{Rises, max-rises, min-rises, through-3, min-cap-rises, times-rises}
+use Rattle.ray.proofs.Through.{Rises, Through, max-rises, min-rises, three-as, either-as, min-cap-rises, times-rises}
 use Rattle.ray.proofs.Way.{passed, factor-pos}
 
 -- α times D of the place c on a side, at most D
@@ -82,15 +82,15 @@ module _ (r : Ray) where
   pub leave-cap : (s : Side) (t : Slab) → leave r s t ≤ dOf r
   leave-cap s t = rw (← cap-leave s t) (min-le-left (dOf r) (leaves (rest r s) (leg r s) t))
 
+  -- the three sides of a box, each capped at D
+  capped : (f : ℕ → ℕ → ℕ) → Through (min (dOf r)) f f → (x y z x′ y′ z′ : ℕ) → min (dOf r) x ≡ x′ → min (dOf r) y ≡ y′ → min (dOf r) z ≡ z′ → min (dOf r) (f x (f y z)) ≡ f x′ (f y′ z′)
+  capped f e x y z x′ y′ z′ = three-as (min (dOf r)) (λ n. n) f f f e (λ a b. refl) x′ y′ z′ x y z
+
   pub begin-sides : (b : Side → Slab) → begin r b ≡ max (enter r X (b X)) (max (enter r Y (b Y)) (enter r Z (b Z)))
-  begin-sides b =
-      sym (through-3 (min (dOf r)) max max (max-rises (min (dOf r)) (min-cap-rises (dOf r))) (enters (rest r X) (leg r X) (b X)) (enters (rest r Y) (leg r Y) (b Y)) (enters (rest r Z) (leg r Z) (b Z)))
-      ∙ rw (cap-enter X (b X), cap-enter Y (b Y), cap-enter Z (b Z))
+  begin-sides b = capped max (max-rises (min (dOf r)) (min-cap-rises (dOf r))) _ _ _ _ _ _ (cap-enter X (b X)) (cap-enter Y (b Y)) (cap-enter Z (b Z))
 
   pub stop-sides : (b : Side → Slab) → stop r b ≡ min (leave r X (b X)) (min (leave r Y (b Y)) (leave r Z (b Z)))
-  stop-sides b =
-      sym (through-3 (min (dOf r)) min min (min-rises (min (dOf r)) (min-cap-rises (dOf r))) (leaves (rest r X) (leg r X) (b X)) (leaves (rest r Y) (leg r Y) (b Y)) (leaves (rest r Z) (leg r Z) (b Z)))
-      ∙ rw (cap-leave X (b X), cap-leave Y (b Y), cap-leave Z (b Z))
+  stop-sides b = capped min (min-rises (min (dOf r)) (min-cap-rises (dOf r))) _ _ _ _ _ _ (cap-leave X (b X)) (cap-leave Y (b Y)) (cap-leave Z (b Z))
 
   pub part-held : (b : Side → Slab) → holds r b ≡ true → part r b ≡ stop r b - begin r b
   unfolding part
@@ -126,38 +126,14 @@ module _
     (each : (s : Side) (c : ℤ) → moving (leg r s) ≡ true → g (on r′ s c) ≡ h (on r s c)) where
   enter-as : (s : Side) (t : Slab) → g (enter r′ s t) ≡ h (enter r s t)
   unfolding enter
-  enter-as s t = rw (moved s) (go (moving (leg r s)) refl)
-    where
-      go : (m : Bool) → moving (leg r s) ≡ m → g (cond m (min (on r′ s (t .lo)) (on r′ s (t .hi))) 0) ≡ h (cond m (min (on r s (t .lo)) (on r s (t .hi))) 0)
-      go true e =
-          sym (min-rises g g-rises (on r′ s (t .lo)) (on r′ s (t .hi)))
-          ∙ rw (each s (t .lo) e, each s (t .hi) e)
-          (min-rises h h-rises (on r s (t .lo)) (on r s (t .hi)))
-      go false e = none
+  enter-as s t = rw (moved s) (either-as g h min min min (min-rises g g-rises) (min-rises h h-rises) (moving (leg r s)) _ _ _ _ _ _ (each s (t .lo)) (each s (t .hi)) none)
 
   leave-as : (s : Side) (t : Slab) → g (leave r′ s t) ≡ h (leave r s t)
   unfolding leave
-  leave-as s t = rw (moved s) (go (moving (leg r s)) refl)
-    where
-      go : (m : Bool) → moving (leg r s) ≡ m → g (cond m (max (on r′ s (t .lo)) (on r′ s (t .hi))) (dOf r′)) ≡ h (cond m (max (on r s (t .lo)) (on r s (t .hi))) (dOf r))
-      go true e =
-          sym (max-rises g g-rises (on r′ s (t .lo)) (on r′ s (t .hi)))
-          ∙ rw (each s (t .lo) e, each s (t .hi) e)
-          (max-rises h h-rises (on r s (t .lo)) (on r s (t .hi)))
-      go false e = all
+  leave-as s t = rw (moved s) (either-as g h max max max (max-rises g g-rises) (max-rises h h-rises) (moving (leg r s)) _ _ _ _ _ _ (each s (t .lo)) (each s (t .hi)) all)
 
   pub begin-as : (b : Side → Slab) → g (begin r′ b) ≡ h (begin r b)
-  begin-as b =
-      ap g (begin-sides r′ b)
-      ∙ sym (through-3 g max max (max-rises g g-rises) (enter r′ X (b X)) (enter r′ Y (b Y)) (enter r′ Z (b Z)))
-      ∙ rw (enter-as X (b X), enter-as Y (b Y), enter-as Z (b Z))
-      (through-3 h max max (max-rises h h-rises) (enter r X (b X)) (enter r Y (b Y)) (enter r Z (b Z)))
-      ∙ sym (ap h (begin-sides r b))
+  begin-as b = ap g (begin-sides r′ b) ∙ three-as g h max max max (max-rises g g-rises) (max-rises h h-rises) _ _ _ _ _ _ (enter-as X (b X)) (enter-as Y (b Y)) (enter-as Z (b Z)) ∙ sym (ap h (begin-sides r b))
 
   pub stop-as : (b : Side → Slab) → g (stop r′ b) ≡ h (stop r b)
-  stop-as b =
-      ap g (stop-sides r′ b)
-      ∙ sym (through-3 g min min (min-rises g g-rises) (leave r′ X (b X)) (leave r′ Y (b Y)) (leave r′ Z (b Z)))
-      ∙ rw (leave-as X (b X), leave-as Y (b Y), leave-as Z (b Z))
-      (through-3 h min min (min-rises h h-rises) (leave r X (b X)) (leave r Y (b Y)) (leave r Z (b Z)))
-      ∙ sym (ap h (stop-sides r b))
+  stop-as b = ap g (stop-sides r′ b) ∙ three-as g h min min min (min-rises g g-rises) (min-rises h h-rises) _ _ _ _ _ _ (leave-as X (b X)) (leave-as Y (b Y)) (leave-as Z (b Z)) ∙ sym (ap h (stop-sides r b))

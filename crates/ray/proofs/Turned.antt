@@ -15,7 +15,7 @@ use Rattle.axis.proofs.Shift.{shift, Low}
 use Rattle.ray.specs.declared.Ray.{Ray}
 use Rattle.ray.specs.Length.{Side, X, Y, Z, leg, dOf, rest, squaredOf, Volume, count, array, voxel, holds, start, stop, partOf, misses, spanOf, total, sumOf, crosses, crossedOf}
 use Rattle.ray.proofs.Total.{total-same}
-use Rattle.ray.proofs.Through.{max-falls, min-falls, through-3, sub-times}
+use Rattle.ray.proofs.Through.{max-falls, min-falls, three-as, either-as, sub-times}
 use Rattle.ray.proofs.Down.{down-falls, gap-down, leb-down, later, crossing-down}
 use Rattle.ray.proofs.Told.{neg-diff}
 use Rattle.ray.proofs.Way.{Way, up, down, still, Goes, moving-by, factor-by, run-by, passed, told, still-same}
@@ -102,38 +102,23 @@ module _ (r : Ray) where
   pub holds-turned : (b : Side → Slab) → holds (turned r) b ≡ holds r b
   holds-turned b = rw (held-back (leg r X) (b X), held-back (leg r Y) (b Y), held-back (leg r Z) (b Z))
 
-  enter-turned : (s : Side) (t : Slab) → enter (turned r) s t ≡ dOf r - leave r s t
-  unfolding enter leave
-  enter-turned s t = rw (moving-turned s) (go (moving (leg r s)) refl)
-    where
-      go : (m : Bool) → moving (leg r s) ≡ m → cond m (min (on (turned r) s (t .lo)) (on (turned r) s (t .hi))) 0 ≡ dOf r - cond m (max (on r s (t .lo)) (on r s (t .hi))) (dOf r)
-      go true e =
-          rw (on-turned s (t .lo) e, on-turned s (t .hi) e) (min-falls (λ x. dOf r - x) (down-falls (dOf r)) (on r s (t .lo)) (on r s (t .hi)))
-      go false e = sym (sub-self (dOf r))
+  abbrev from-q : ℕ → ℕ
+  from-q x = dOf r - x
 
-  leave-turned : (s : Side) (t : Slab) → leave (turned r) s t ≡ dOf r - enter r s t
+  enter-turned : (s : Side) (t : Slab) → enter (turned r) s t ≡ from-q (leave r s t)
   unfolding enter leave
-  leave-turned s t = rw (moving-turned s) (go (moving (leg r s)) refl)
-    where
-      go : (m : Bool) → moving (leg r s) ≡ m → cond m (max (on (turned r) s (t .lo)) (on (turned r) s (t .hi))) (dOf (turned r)) ≡ dOf r - cond m (min (on r s (t .lo)) (on r s (t .hi))) 0
-      go true e =
-          rw (on-turned s (t .lo) e, on-turned s (t .hi) e) (max-falls (λ x. dOf r - x) (down-falls (dOf r)) (on r s (t .lo)) (on r s (t .hi)))
-      go false e = d-turned ∙ sym (sub-zero (dOf r))
+  enter-turned s t = rw (moving-turned s) (either-as (λ x. x) from-q min max min (λ a b. refl) (min-falls from-q (down-falls (dOf r))) (moving (leg r s)) _ _ _ _ _ _ (on-turned s (t .lo)) (on-turned s (t .hi)) (sym (sub-self (dOf r))))
+
+  leave-turned : (s : Side) (t : Slab) → leave (turned r) s t ≡ from-q (enter r s t)
+  unfolding enter leave
+  leave-turned s t = rw (moving-turned s) (either-as (λ x. x) from-q max min max (λ a b. refl) (max-falls from-q (down-falls (dOf r))) (moving (leg r s)) _ _ _ _ _ _ (on-turned s (t .lo)) (on-turned s (t .hi)) (d-turned ∙ sym (sub-zero (dOf r))))
 
   -- the ray turned enters a box where the ray leaves it, told from the other end, and the other way round
   pub begin-turned : (b : Side → Slab) → begin (turned r) b ≡ dOf r - stop r b
-  begin-turned b =
-      begin-sides (turned r) b
-      ∙ rw (enter-turned X (b X), enter-turned Y (b Y), enter-turned Z (b Z))
-      (through-3 (λ x. dOf r - x) max min (max-falls (λ x. dOf r - x) (down-falls (dOf r))) (leave r X (b X)) (leave r Y (b Y)) (leave r Z (b Z)))
-      ∙ ap (λ (x : ℕ). dOf r - x) (sym (stop-sides r b))
+  begin-turned b = begin-sides (turned r) b ∙ three-as (λ x. x) from-q max min max (λ a b. refl) (max-falls from-q (down-falls (dOf r))) _ _ _ _ _ _ (enter-turned X (b X)) (enter-turned Y (b Y)) (enter-turned Z (b Z)) ∙ ap from-q (sym (stop-sides r b))
 
   pub stop-turned : (b : Side → Slab) → stop (turned r) b ≡ dOf r - begin r b
-  stop-turned b =
-      stop-sides (turned r) b
-      ∙ rw (leave-turned X (b X), leave-turned Y (b Y), leave-turned Z (b Z))
-      (through-3 (λ x. dOf r - x) min max (min-falls (λ x. dOf r - x) (down-falls (dOf r))) (enter r X (b X)) (enter r Y (b Y)) (enter r Z (b Z)))
-      ∙ ap (λ (x : ℕ). dOf r - x) (sym (begin-sides r b))
+  stop-turned b = stop-sides (turned r) b ∙ three-as (λ x. x) from-q min max min (λ a b. refl) (min-falls from-q (down-falls (dOf r))) _ _ _ _ _ _ (leave-turned X (b X)) (leave-turned Y (b Y)) (leave-turned Z (b Z)) ∙ ap from-q (sym (begin-sides r b))
 
   -- the same, capped at the ray's own D
   begin-down : (b : Side → Slab) → min (dOf r) (start (turned r) b) ≡ dOf r - stop r b

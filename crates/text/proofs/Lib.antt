@@ -4,6 +4,7 @@ pub mod Same
 pub mod Decimal
 pub mod Digits
 pub mod Numeral
+pub mod Told
 pub mod Sign
 pub mod Every
 pub mod Written

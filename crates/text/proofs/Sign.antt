@@ -18,6 +18,7 @@ use Rattle.text.specs.declared.number.Natural.the-variants as natural
 use Rattle.text.specs.declared.number.Integer.{Integer}
 use Rattle.text.specs.declared.number.Integer.the-variants as integer
 use Rattle.text.proofs.Numeral.{natural-small}
+use Rattle.text.proofs.Told.{told}
 
 -- what an answer tells of its numeral
 abbrev ofNatural : Natural → Option ℕ
@@ -25,16 +26,14 @@ ofNatural (natural.Value v) = some v
 ofNatural natural.Bad = none
 
 pub natural-told : (o : Option ℕ) {r : Natural} (a : Natural) → r ≡ readNatural o → r ≡ a → o ≡ ofNatural a
-natural-told none a e f = sym (ap ofNatural (sym f ∙ e))
-natural-told (some v) a e f = sym (ap ofNatural (sym f ∙ e))
+natural-told = told readNatural ofNatural (λ o. elim o [ none ↦ refl | some v ↦ refl ])
 
 abbrev ofInteger : Integer → Option ℤ
 ofInteger (integer.Value z) = some z
 ofInteger integer.Bad = none
 
 pub integer-told : (o : Option ℤ) {r : Integer} (a : Integer) → r ≡ readInteger o → r ≡ a → o ≡ ofInteger a
-integer-told none a e f = sym (ap ofInteger (sym f ∙ e))
-integer-told (some z) a e f = sym (ap ofInteger (sym f ∙ e))
+integer-told = told readInteger ofInteger (λ o. elim o [ none ↦ refl | some z ↦ refl ])
 
 pub minus-some : (t : List ℕ) → hasMinus t ≡ true → 1 ≤ length t
 unfolding hasMinus

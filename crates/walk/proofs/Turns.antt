@@ -49,6 +49,9 @@ module _ (s : Strides) (to : ℕ) where
   unfolding stepped
   step-tick w = refl
 
+  pub next-tick : (w : Walk) {next : Walk} → next ≡ stepped s w → next .t ≡ soonest w
+  next-tick w e = ap (λ (x : Walk). x .t) e ∙ step-tick w
+
   -- more turns than ticks make no difference
   go-enough : (m n : ℕ) (w : Walk) → Forward s to w → to - w .t ≤ m → to - w .t ≤ n → go m s to w ≡ go n s to w
   unfolding go

@@ -8,7 +8,7 @@ use Rattle.job.specs.Stand.{standOf}
 use Rattle.job.specs.Numbers.{gridIn}
 use Rattle.job.specs.Line.{gridCode, gridStep}
 use Rattle.job.proofs.Taking.{all-lines, code-zero, sides, layers-fit}
-use Rattle.job.proofs.Steps.{stopped, went, refused-by, passed-by, grid-none, grid-some}
+use Rattle.job.proofs.Steps.{stopped, went, refused-by, passed-by, grid-told}
 use borrow.Author.Needs.{needs}
 use Rattle.job.proofs.grid.take_grid.Statement.{statement}
 use Rattle.job.proofs.grid.take_grid.Tie as tie
@@ -32,7 +32,7 @@ returns : tie.Need-returns
 returns c =
     let a = c .before .before .before .before .before .before .before .before .before .args in
     let no = c .before .before .refuse in
-    (no .ensures .0 .2, λ ds. stopped (take (a .at) (a .out .now)) (standOf (no .result .state) ds) (no .ensures .0 .1) (no .ensures .1) (ap (gridStep (a .st .lines)) (grid-none (gridIn (split 9 (a .line .now))) (c .before .before .before .before .before .before .grid-in .ensures) (c .before .before .before .before .enum-told .given .1))))
+    (no .ensures .0 .2, λ ds. stopped (take (a .at) (a .out .now)) (standOf (no .result .state) ds) (no .ensures .0 .1) (no .ensures .1) (ap (gridStep (a .st .lines)) (grid-told (gridIn (split 9 (a .line .now))) _ (c .before .before .before .before .before .before .grid-in .ensures) (c .before .before .before .before .enum-told .given .1))))
 
 taken-code-requires : tie.Need-taken-code-requires
 taken-code-requires c κs = search needs
@@ -47,7 +47,7 @@ returns-2 : tie.Need-returns-2
 returns-2 c =
     let a = c .before .before .before .before .before .before .before .before .before .before .before .before .args in
     let no = c .before .before .refuse2 in
-    (no .ensures .0 .2, λ ds. stopped (take (a .at) (a .out .now)) (standOf (no .result .state) ds) (no .ensures .0 .1) (no .ensures .1) (ap (gridStep (a .st .lines)) (grid-some (gridIn (split 9 (a .line .now))) (c .before .before .before .before .before .before .before .before .before .grid-in .ensures) (c .before .before .before .before .before .before .before .read .given .1)) ∙ rw (← (c .before .before .before .before .before .taken-code .ensures)) (refused-by (a .st .lines) (c .before .before .before .before .before .taken-code .result) _ (c .before .before .before .before .if1 .taken))))
+    (no .ensures .0 .2, λ ds. stopped (take (a .at) (a .out .now)) (standOf (no .result .state) ds) (no .ensures .0 .1) (no .ensures .1) (ap (gridStep (a .st .lines)) (grid-told (gridIn (split 9 (a .line .now))) _ (c .before .before .before .before .before .before .before .before .before .grid-in .ensures) (c .before .before .before .before .before .before .before .read .given .1)) ∙ rw (← (c .before .before .before .before .before .taken-code .ensures)) (refused-by (a .st .lines) (c .before .before .before .before .before .taken-code .result) _ (c .before .before .before .before .if1 .taken))))
 
 add-t15 : tie.Need-add-t15
 add-t15 c = search needs
@@ -76,7 +76,7 @@ returns-3 c =
         room = omega arith;
       },
       λ ds. went p (sym (append-nil p)) refl
-          (ap (gridStep (a .st .lines)) (grid-some (gridIn (split 9 (a .line .now))) (c .before .before .before .before .before .before .before .before .before .before .grid-in .ensures) (c .before .before .before .before .before .before .before .before .read .given .1)) ∙ passed-by (a .st .lines) _ fine),
+          (ap (gridStep (a .st .lines)) (grid-told (gridIn (split 9 (a .line .now))) _ (c .before .before .before .before .before .before .before .before .before .before .grid-in .ensures) (c .before .before .before .before .before .before .before .before .read .given .1)) ∙ passed-by (a .st .lines) _ fine),
     )
 
 pub take-grid-spec : {M : Type 1} → statement M

@@ -8,7 +8,7 @@ use Rattle.job.specs.Stand.{standOf}
 use Rattle.job.specs.Numbers.{rayIn}
 use Rattle.job.specs.Line.{rayStep}
 use Rattle.job.proofs.Loading.{sound-ray, taken}
-use Rattle.job.proofs.Steps.{stopped, went, ray-none, ray-some}
+use Rattle.job.proofs.Steps.{stopped, went, ray-told}
 use borrow.Author.Needs.{needs}
 use Rattle.job.proofs.rays.take_ray.Statement.{statement}
 use Rattle.job.proofs.rays.take_ray.Tie as tie
@@ -34,7 +34,7 @@ returns c =
     let no = c .before .before .refuse in (
       no .ensures .0 .2,
       stopped (take (a .at) (a .out .now)) (standOf (no .result .state) (a .densities .now)) (no .ensures .0 .1) (no .ensures .1)
-          (ap (rayStep (standOf (a .st) (a .densities .now))) (ray-none (rayIn (split 9 (a .line .now))) (c .before .before .before .before .before .before .ray-in .ensures) (c .before .before .before .before .enum-told .given .1))),
+          (ap (rayStep (standOf (a .st) (a .densities .now))) (ray-told (rayIn (split 9 (a .line .now))) _ (c .before .before .before .before .before .before .ray-in .ensures) (c .before .before .before .before .enum-told .given .1))),
     )
 
 slice-aggregate-put-ray : tie.Need-slice-aggregate-put-ray
@@ -66,7 +66,7 @@ returns-2 c =
     let put = c .before .before .before .before .put-ray in (
       record { sound = sound-ray (a .st) (s .pre .0) (s .pre .2) (s .pre .3); have = refl; lines = omega arith; room = put .ensures .0 },
       went (take (a .at) (a .out .now)) (put .ensures .1) refl
-          (ap (rayStep (standOf (a .st) (a .densities .now))) (ray-some (rayIn (split 9 (a .line .now))) (c .before .before .before .before .before .before .before .before .before .before .before .ray-in .ensures) (c .before .before .before .before .before .before .before .before .before .read .given .1))),
+          (ap (rayStep (standOf (a .st) (a .densities .now))) (ray-told (rayIn (split 9 (a .line .now))) _ (c .before .before .before .before .before .before .before .before .before .before .before .ray-in .ensures) (c .before .before .before .before .before .before .before .before .before .read .given .1))),
     )
 
 pub take-ray-spec : {M : Type 1} → statement M

@@ -68,39 +68,24 @@ returns c =
 
 slice-reshare-prefix-put-bytes : tie.Need-slice-reshare-prefix-put-bytes Inv-loop μ-loop
 slice-reshare-prefix-put-bytes c =
-    let l = c .before .before .before .before .before .before .before .before .before .before .before .before .before .before in
     let s = c .before .before .before .before .before .before .before .before .before .before .before .before .before .before .before .before .before .before .before .before .before in
-    let a = s .args in
-    let o = l .loop in
+    let o = c .before .before .before .before .before .before .before .before .before .before .before .before .before .before .loop in
     let p = c .before .before .before .before .before .before .before .before .before .pump in
-    let answer = p .last .1 .1 .1 .1 .1 .0 in
-    let n = p .result .moved .at in
-    let sized : length (take n answer) ≡ n = answer-length n answer (p .ensures .0 .room) (p .kept .1 .1 .1 .1 .1 .0) (o .inv .2) (s .pre .1) in
     omega (arith, p .ensures .0 .room, p .kept .1 .1 .1 .1 .1 .0, o .inv .2, s .pre .1)
 
 slice-aggregate-put-bytes : tie.Need-slice-aggregate-put-bytes Inv-loop μ-loop
 slice-aggregate-put-bytes c =
-    let l = c .before .before .before .before .before .before .before .before .before .before .before .before .before .before .before in
     let s = c .before .before .before .before .before .before .before .before .before .before .before .before .before .before .before .before .before .before .before .before .before .before in
-    let a = s .args in
-    let o = l .loop in
+    let o = c .before .before .before .before .before .before .before .before .before .before .before .before .before .before .before .loop in
     let p = c .before .before .before .before .before .before .before .before .before .before .pump in
-    let answer = p .last .1 .1 .1 .1 .1 .0 in
-    let n = p .result .moved .at in
-    let sized : length (take n answer) ≡ n = answer-length n answer (p .ensures .0 .room) (p .kept .1 .1 .1 .1 .1 .0) (o .inv .2) (s .pre .1) in
-    sym sized
+    sym (answer-length _ _ (p .ensures .0 .room) (p .kept .1 .1 .1 .1 .1 .0) (o .inv .2) (s .pre .1))
 
 put-bytes-requires : tie.Need-put-bytes-requires Inv-loop μ-loop
 put-bytes-requires c κs =
-    let l = c .before .before .before .before .before .before .before .before .before .before .before .before .before .before .before in
     let s = c .before .before .before .before .before .before .before .before .before .before .before .before .before .before .before .before .before .before .before .before .before .before in
-    let a = s .args in
-    let o = l .loop in
+    let o = c .before .before .before .before .before .before .before .before .before .before .before .before .before .before .before .loop in
     let p = c .before .before .before .before .before .before .before .before .before .before .pump in
-    let answer = p .last .1 .1 .1 .1 .1 .0 in
-    let n = p .result .moved .at in
-    let sized : length (take n answer) ≡ n = answer-length n answer (p .ensures .0 .room) (p .kept .1 .1 .1 .1 .1 .0) (o .inv .2) (s .pre .1) in
-    omega (arith, o .inv .4 .room)
+    omega (arith, o .inv .4 .room, answer-length (p .result .moved .at) (p .last .1 .1 .1 .1 .1 .0) (p .ensures .0 .room) (p .kept .1 .1 .1 .1 .1 .0) (o .inv .2) (s .pre .1))
 
 same-length-5 : tie.Need-same-length-5 Inv-loop μ-loop
 same-length-5 c = c .before .before .before .before .before .before .before .before .before .before .before .before .before .before .before .pump .kept .1 .0 ∙ c .before .before .before .before .before .before .before .before .before .before .before .before .before .before .before .before .before .before .before .before .loop .inv .0

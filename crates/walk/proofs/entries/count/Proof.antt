@@ -1,9 +1,7 @@
 use Prim.Native.Nat.{_-_}
-use mathlib.Core.Path.{_≡_, ap, _∙_}
 use native.Mathlib.Omega.{arith}
-use Rattle.walk.specs.declared.steps.Walk.{Walk}
-use Rattle.walk.specs.Model.{soonest, stepped, entries}
-use Rattle.walk.proofs.Turns.{step-fits, step-tick, Counting, none-counted, counted-below, last-counted, one-counted}
+use Rattle.walk.specs.Model.{entries}
+use Rattle.walk.proofs.Turns.{step-fits, next-tick, Counting, none-counted, counted-below, last-counted, one-counted}
 use Rattle.walk.proofs.entries.count.Statement.{statement}
 use Rattle.walk.proofs.entries.count.Tie as tie
 
@@ -32,27 +30,22 @@ returns : tie.Need-returns Inv-loop μ-loop
 returns c =
     let a = c .before .before .before .before .args in
     let l = c .before .before .before .loop in
-    let n = c .before .before .step .result in
-    let e : n ≡ stepped (a .s) (l .w) = c .before .before .step .ensures in
-    let u : n .t ≡ soonest (l .w) = ap (λ (x : Walk). x .t) e ∙ step-tick (a .s) (a .to) (l .w) in
+    let u = next-tick (a .s) (a .to) (l .w) (c .before .before .step .ensures) in
     last-counted (a .s) (a .to) (entries (a .s) (a .to) (a .begin)) (l .w) (l .r) (l .inv) (omega (arith, u, c .if1 .taken))
 
 loop-less : tie.Need-loop-less Inv-loop μ-loop
 loop-less c =
     let a = c .before .before .before .before .args in
     let l = c .before .before .before .loop in
-    let n = c .before .before .step .result in
-    let e : n ≡ stepped (a .s) (l .w) = c .before .before .step .ensures in
-    let u : n .t ≡ soonest (l .w) = ap (λ (x : Walk). x .t) e ∙ step-tick (a .s) (a .to) (l .w) in
+    let u = next-tick (a .s) (a .to) (l .w) (c .before .before .step .ensures) in
     omega (arith, u, l .inv .forward .later, l .inv .forward .before)
 
 loop-again : tie.Need-loop-again Inv-loop μ-loop
 loop-again c =
     let a = c .before .before .before .before .args in
     let l = c .before .before .before .loop in
-    let n = c .before .before .step .result in
-    let e : n ≡ stepped (a .s) (l .w) = c .before .before .step .ensures in
-    let u : n .t ≡ soonest (l .w) = ap (λ (x : Walk). x .t) e ∙ step-tick (a .s) (a .to) (l .w) in
+    let e = c .before .before .step .ensures in
+    let u = next-tick (a .s) (a .to) (l .w) e in
     rw e (one-counted (a .s) (a .to) (entries (a .s) (a .to) (a .begin)) (l .w) (l .r) (l .inv) (omega (arith, u, c .if1 .left)))
 
 pub count-spec : {M : Type 1} → statement M

@@ -1,11 +1,10 @@
 use Prim.Native.Nat.{_-_, _^_, _%_}
-use mathlib.Core.Path.{_≡_, ap, _∙_}
+use mathlib.Core.Path.{_∙_}
 use native.Mathlib.Omega.{arith}
 use borrow.Author.Needs.{needs}
 use lib.ListN.{length-set}
-use Rattle.walk.specs.declared.steps.Walk.{Walk}
-use Rattle.walk.specs.Model.{soonest, stepped, entries}
-use Rattle.walk.proofs.Turns.{step-fits, step-tick, Filling, none-filled, place-v, place-p, counted-below, last-filled, one-filled}
+use Rattle.walk.specs.Model.{stepped, entries}
+use Rattle.walk.proofs.Turns.{step-fits, next-tick, Filling, none-filled, place-v, place-p, counted-below, last-filled, one-filled}
 use Rattle.walk.proofs.entries.fill.Statement.{statement}
 use Rattle.walk.proofs.entries.fill.Tie as tie
 
@@ -78,18 +77,14 @@ returns : tie.Need-returns Inv-loop μ-loop
 returns c =
     let a = c .before .before .before .before .before .before .before .before .args in
     let l = c .before .before .before .before .before .loop in
-    let n = c .before .before .before .before .step .result in
-    let e : n ≡ stepped (a .s) (l .w) = c .before .before .before .before .step .ensures in
-    let u : n .t ≡ soonest (l .w) = ap (λ (x : Walk). x .t) e ∙ step-tick (a .s) (a .to) (l .w) in
+    let u = next-tick (a .s) (a .to) (l .w) (c .before .before .before .before .step .ensures) in
     last-filled (a .s) (a .to) (entries (a .s) (a .to) (a .begin)) (l .w) (l .r) (l .voxels) (l .parts) (a .voxels .now) (a .parts .now) (l .inv) (omega (arith, u, c .before .if1 .taken))
 
 sub-parts-2 : tie.Need-sub-parts-2 Inv-loop μ-loop
 sub-parts-2 c =
     let a = c .before .before .before .before .before .before .before .before .before .args in
     let l = c .before .before .before .before .before .before .loop in
-    let n = c .before .before .before .before .before .step .result in
-    let e : n ≡ stepped (a .s) (l .w) = c .before .before .before .before .before .step .ensures in
-    let u : n .t ≡ soonest (l .w) = ap (λ (x : Walk). x .t) e ∙ step-tick (a .s) (a .to) (l .w) in
+    let u = next-tick (a .s) (a .to) (l .w) (c .before .before .before .before .before .step .ensures) in
     omega (arith, u, l .inv .counting .forward .later)
 
 mul-parts-2 : tie.Need-mul-parts-2 Inv-loop μ-loop
@@ -114,9 +109,7 @@ loop-less : tie.Need-loop-less Inv-loop μ-loop
 loop-less c =
     let a = c .before .before .before .before .before .before .before .before .before .args in
     let l = c .before .before .before .before .before .before .loop in
-    let n = c .before .before .before .before .before .step .result in
-    let e : n ≡ stepped (a .s) (l .w) = c .before .before .before .before .before .step .ensures in
-    let u : n .t ≡ soonest (l .w) = ap (λ (x : Walk). x .t) e ∙ step-tick (a .s) (a .to) (l .w) in
+    let u = next-tick (a .s) (a .to) (l .w) (c .before .before .before .before .before .step .ensures) in
     omega (arith, u, l .inv .counting .forward .later, l .inv .counting .forward .before)
 
 loop-again : tie.Need-loop-again Inv-loop μ-loop
@@ -124,9 +117,8 @@ unfolding stepped
 loop-again c =
     let a = c .before .before .before .before .before .before .before .before .before .args in
     let l = c .before .before .before .before .before .before .loop in
-    let n = c .before .before .before .before .before .step .result in
-    let e : n ≡ stepped (a .s) (l .w) = c .before .before .before .before .before .step .ensures in
-    let u : n .t ≡ soonest (l .w) = ap (λ (x : Walk). x .t) e ∙ step-tick (a .s) (a .to) (l .w) in
+    let e = c .before .before .before .before .before .step .ensures in
+    let u = next-tick (a .s) (a .to) (l .w) e in
     rw e (one-filled (a .s) (a .to) (entries (a .s) (a .to) (a .begin)) (l .w) (l .r) (l .voxels) (l .parts) (a .voxels .now) (a .parts .now) (l .inv) (omega (arith, u, c .before .before .if1 .left)))
 
 pub fill-spec : {M : Type 1} → statement M
