@@ -25,8 +25,8 @@ JOB_PLACES = 600
 ANSWER_PLACES = 6
 PLACE_PLACES = 2
 
-# Up to here every voxel is asked; a larger array would take minutes.
-BRUTE_VOXELS_MAX = 12**3
+# Up to here, so in every job, each voxel is asked; a larger array would take minutes.
+BRUTE_VOXELS_MAX = JOB_VOXELS_MAX
 
 ZERO, ONE = Fraction(0), Fraction(1)
 
