@@ -121,9 +121,10 @@ def differ(number: int, case: Case, stated: bytes, found: Ended) -> str:
 
 def broken_streams(tally: Tally, command: list[str]) -> None:
     """A failed read or write is told, and no answer pretends that all was read or written."""
-    with open("/dev/full", "wb") as full:
-        said = subprocess.run(command, input=b"", stdout=full, stderr=subprocess.PIPE, timeout=LONGEST).stderr
-    tally.check(said != b"", "a failed write is told on standard error")
+    for job in (b"", damage.large(Random(1))):  # written at the end; written more than once
+        with open("/dev/full", "wb") as full:
+            said = subprocess.run(command, input=job, stdout=full, stderr=subprocess.PIPE, timeout=LONGEST).stderr
+        tally.check(said.count(b"\n") == 1, f"a failed write is told once and ends a job of {len(job)} bytes; told: {said[:200]!r}")
     folder = os.open("/", os.O_RDONLY)
     ended = subprocess.run(command, stdin=folder, capture_output=True, timeout=LONGEST)
     os.close(folder)
