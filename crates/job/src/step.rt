@@ -69,8 +69,8 @@ pub fn pump(
     match part {
         Cut::Line { len, next } => {
             let fresh = st.begun(0);
-            let m = take_line(fresh, &line[..len], densities, out, at);
-            Pumped { moved: m, next }
+            let moved = take_line(fresh, &line[..len], densities, out, at);
+            Pumped { moved, next }
         },
         Cut::More { len } => Pumped {
             moved: Moved {
@@ -82,11 +82,8 @@ pub fn pump(
         },
         Cut::Long => {
             let fresh = st.begun(0);
-            let m = fresh.refuse(20, out, at);
-            Pumped {
-                moved: m,
-                next: end,
-            }
+            let moved = fresh.refuse(20, out, at);
+            Pumped { moved, next: end }
         },
     }
 }

@@ -1,6 +1,4 @@
-use mathlib.Core.Path.{_≡_, sym, _∙_}
-use mathlib.Core.Bool.{true, _||_}
-use lib.Dec.{eqb, ltb}
+use mathlib.Core.Path.{sym, _∙_}
 use borrow.Author.Needs.{needs}
 use Rattle.axis.proofs.Axis.code.Statement.{statement}
 use Rattle.axis.proofs.Axis.code.Tie as tie
@@ -9,10 +7,7 @@ beyond-requires : tie.Need-beyond-requires
 beyond-requires c κs = search needs
 
 returns : tie.Need-returns
-returns c =
-    let n = c .before .before .args .self .n in
-    let out : (eqb n 0 || ltb 512 n) ≡ true = sym (c .before .beyond .ensures) ∙ c .if1 .taken in
-    rw out
+returns c = rw (sym (c .before .beyond .ensures) ∙ c .if1 .taken)
 
 beyond-requires-2 : tie.Need-beyond-requires-2
 beyond-requires-2 c κs = search needs
