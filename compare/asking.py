@@ -8,7 +8,7 @@ from typing import Iterator
 import oracle
 import scenes
 from lending import Call, Formula
-from oracle import COORD_MAX, D_MAX, N_MAX, Axis, Grid, Lent, Ray
+from oracle import COORD_MAX, COUNT_MAX, SPACING_MAX, Axis, Grid, Lent, Ray
 from selftest import BENCH, RAYS
 
 TRACE_CODES = [1, 2, 3, 4, 5, 6, 7, 8, 17]
@@ -51,9 +51,9 @@ def spoiled(dice: Random, call: Call, code: int) -> Call:
     far = dice.choice(call.grid)
     lent = call.lent
     if code == 1:
-        return with_axis(dice, call, n=dice.choice([0, N_MAX + 1, U32_MAX, 2**31]))
+        return with_axis(dice, call, n=dice.choice([0, COUNT_MAX + 1, U32_MAX, 2**31]))
     if code == 2:
-        return with_axis(dice, call, d=dice.choice([0, D_MAX + 1, U32_MAX, 2**31]))
+        return with_axis(dice, call, d=dice.choice([0, SPACING_MAX + 1, U32_MAX, 2**31]))
     if code == 3:
         beyond = max(-COORD_MAX, COORD_MAX + 1 - far.n * far.d)
         return with_axis(dice, call, b=dice.choice([-COORD_MAX - 1, COORD_MAX, COORD_MAX + 1, I32_MIN, I32_MAX, beyond]))
@@ -76,7 +76,7 @@ def random_calls(dice: Random, many: int) -> Iterator[Call]:
     """Half of them accepted, the others with one, two or three things to refuse."""
     for _ in range(many):
         place = dice.random() < 0.3
-        grid = scenes.grid(dice, dice.choice([1, 2, 4, 6, 9, 12] + ([N_MAX] if place else [])))
+        grid = scenes.grid(dice, dice.choice([1, 2, 4, 6, 9, 12] + ([COUNT_MAX] if place else [])))
         ray = scenes.ray(dice, grid)
         call = placed(dice, grid, ray) if place else accepted(dice, grid, ray, densities(dice, grid))
         for _ in range(dice.choice([0, 0, 0, 1, 1, 2, 3])):
@@ -88,7 +88,7 @@ def large_calls(dice: Random, many: int) -> Iterator[Call]:
     """Arrays of up to 512 voxels on an axis, several rays on each, one array as large as they come."""
     for at in range(many):
         n = dice.choice([(512, 1, 1), (1, 512, 512), (512, 64, 3), (200, 100, 90), (7, 300, 512), (128, 128, 128)])
-        grid = scenes.grid_of(dice, *(n if at else (N_MAX, N_MAX, N_MAX)))
+        grid = scenes.grid_of(dice, *(n if at else (COUNT_MAX, COUNT_MAX, COUNT_MAX)))
         of = densities(dice, grid)
         for _ in range(20):
             call = accepted(dice, grid, scenes.ray(dice, grid), of)
@@ -99,10 +99,10 @@ def bench_calls(dice: Random) -> Iterator[Call]:
     """Document 01's rays A to J, its widest ray, and its limits."""
     bench = Formula(6, 2**16, 2**16)  # 1, 2, .. 6
     told = [accepted(dice, BENCH, ray, bench) for ray, *_ in RAYS.values()]
-    widest = Axis(8, D_MAX, -COORD_MAX)
+    widest = Axis(8, SPACING_MAX, -COORD_MAX)
     corners = Ray((-COORD_MAX,) * 3, (COORD_MAX,) * 3)
     told.append(accepted(dice, (widest, widest, widest), corners, Formula(512, 0, U32_MAX)))
-    for n, d in ((N_MAX, 1), (N_MAX + 1, 1), (1, D_MAX), (1, D_MAX + 1)):
+    for n, d in ((COUNT_MAX, 1), (COUNT_MAX + 1, 1), (1, SPACING_MAX), (1, SPACING_MAX + 1)):
         told.append(told[2]._replace(grid=(Axis(n, d, 0), Axis(1, 1, 0), Axis(1, 1, 0)), densities=Formula(n, 9, 9)))
     for c in (COORD_MAX, COORD_MAX + 1):
         told.append(told[0]._replace(ray=Ray((c, 5, 5), (0, 5, 5))))

@@ -5,7 +5,7 @@ from random import Random
 from typing import Iterator
 
 import scenes
-from oracle import COORD_MAX, D_MAX, DENSITY_MAX, JOB_VOXELS_MAX, LINE_MAX, N_MAX, Axis, Grid, Ray, count, grid_code
+from oracle import COORD_MAX, COUNT_MAX, DENSITY_MAX, JOB_VOXELS_MAX, LINE_MAX, SPACING_MAX, Axis, Grid, Ray, count, grid_code
 
 Lines = list[bytes]
 
@@ -157,8 +157,8 @@ def limits(dice: Random) -> bytes:
         x, y, z = (one._replace(n=many, d=1) for one, many in zip((x, y, z), n))
     else:
         edge = dice.choice(
-            [Axis(n, 1, 0) for n in (0, N_MAX, N_MAX + 1, 999999)]
-            + [Axis(1, d, 0) for d in (0, D_MAX, D_MAX + 1, 999999)]
+            [Axis(n, 1, 0) for n in (0, COUNT_MAX, COUNT_MAX + 1, 999999)]
+            + [Axis(1, d, 0) for d in (0, SPACING_MAX, SPACING_MAX + 1, 999999)]
             + [Axis(1, 1, b) for b in (-COORD_MAX, -COORD_MAX - 1, COORD_MAX - 1, COORD_MAX, COORD_MAX + 1, -999999)]
             + [Axis(8, 4096, -COORD_MAX), Axis(8, 4096, 1 - COORD_MAX), Axis(0, 0, 99999), Axis(513, 0, 0), Axis(1, 0, 99999)]
         )

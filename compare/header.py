@@ -15,8 +15,8 @@ AXIS = machine.ROOT / "crates" / "axis" / "src" / "lib.rt"
 
 # document 01: the limits, the code table, and the order of "What a trace hands back"
 STATED = {
-    "N_MAX": oracle.N_MAX,
-    "D_MAX": oracle.D_MAX,
+    "COUNT_MAX": oracle.COUNT_MAX,
+    "SPACING_MAX": oracle.SPACING_MAX,
     "COORD_MAX": oracle.COORD_MAX,
     "OK": 0,
     "BAD_N": 1,

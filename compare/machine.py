@@ -1,4 +1,4 @@
-"""Where the built programs are, and how this machine runs them (see the file x86 beside this one)."""
+"""Where the built programs are, and how this machine runs them (see machine/x86)."""
 from __future__ import annotations
 
 import argparse
@@ -9,7 +9,7 @@ from typing import Optional
 HERE = Path(__file__).resolve().parent
 ROOT = HERE.parent
 TARGET = ROOT / "target"
-X86 = HERE / "x86"
+X86 = ROOT / "machine" / "x86"
 
 
 def words(program: Path) -> list[str]:

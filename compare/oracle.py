@@ -15,8 +15,8 @@ from fractions import Fraction
 from functools import lru_cache
 from typing import Iterator, NamedTuple, Optional, Protocol
 
-N_MAX = 512
-D_MAX = 4096
+COUNT_MAX = 512
+SPACING_MAX = 4096
 COORD_MAX = 16384
 DENSITY_MAX = 65535
 LINE_MAX = 4096
@@ -194,9 +194,9 @@ def geometry(grid: Grid, ray: Ray) -> tuple[tuple[Entry, ...], int, int]:
 
 
 def grid_code(grid: Grid) -> int:
-    if any(not 1 <= axis.n <= N_MAX for axis in grid):
+    if any(not 1 <= axis.n <= COUNT_MAX for axis in grid):
         return 1
-    if any(not 1 <= axis.d <= D_MAX for axis in grid):
+    if any(not 1 <= axis.d <= SPACING_MAX for axis in grid):
         return 2
     if any(abs(axis.b) > COORD_MAX or axis.plane(axis.n) > COORD_MAX for axis in grid):
         return 3

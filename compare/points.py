@@ -1,5 +1,5 @@
 #!/usr/bin/env python3
-"""Holds the floats that the program bench_points expects of the place and the point call to exact fractions."""
+"""Holds the floats that the program figures_points expects of the place and the point call to exact fractions."""
 from __future__ import annotations
 
 import re
@@ -8,7 +8,7 @@ import machine
 import oracle
 from tally import Tally
 
-PROGRAM = machine.ROOT / "crates" / "bench_points" / "src" / "main.rt"
+PROGRAM = machine.ROOT / "crates" / "figures_points" / "src" / "main.rt"
 GRIDS = {
     "bench": (oracle.Axis(3, 10, 0), oracle.Axis(2, 10, 0), oracle.Axis(1, 10, 0)),
     "wide": (oracle.Axis(8, 4096, -16384),) * 3,

@@ -3,12 +3,12 @@ from __future__ import annotations
 
 from random import Random
 
-from oracle import COORD_MAX, D_MAX, Axis, Grid, Point, Ray
+from oracle import COORD_MAX, SPACING_MAX, Axis, Grid, Point, Ray
 
 
 def axis(dice: Random, n: int) -> Axis:
     """An accepted axis of n voxels: near 0, anywhere, or as far down or up as it may lie."""
-    widest = min(D_MAX, 2 * COORD_MAX // n)
+    widest = min(SPACING_MAX, 2 * COORD_MAX // n)
     d = min(widest, dice.choice([1, 2, dice.randint(1, 12), dice.randint(1, widest), widest]))
     last = COORD_MAX - n * d
     b = dice.choice([0, -dice.randint(0, n * d), dice.randint(-COORD_MAX, last), -COORD_MAX, last])

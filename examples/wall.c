@@ -3,8 +3,8 @@
  * thickness worked out from the weighted sum, D and the squared length.
  *
  *   rt staticlib ilvoresta
- *   compare/x86 cc target/wall examples/wall.c target/staticlib/libilvoresta.a
- *   compare/x86 run target/wall
+ *   machine/x86 cc target/wall examples/wall.c target/staticlib/libilvoresta.a
+ *   machine/x86 run target/wall
  *
  * On an x86-64 machine the second line is
  *

@@ -22,8 +22,8 @@ extern "C" {
  * Each axis has n voxels of spacing d from its first plane b on. Plane i lies at b + i*d, i from 0 to
  * n. Voxel i of an axis holds b + i*d and not b + (i+1)*d, so the far face belongs to no voxel.
  *
- *   n  1 to ILVORESTA_N_MAX
- *   d  1 to ILVORESTA_D_MAX
+ *   n  1 to ILVORESTA_COUNT_MAX
+ *   d  1 to ILVORESTA_SPACING_MAX
  *   b  -ILVORESTA_COORD_MAX to ILVORESTA_COORD_MAX, and b + n*d is at most ILVORESTA_COORD_MAX
  *
  * Voxel (i, j, k), counted from 0, has number i + nx*(j + ny*k).
@@ -34,8 +34,8 @@ extern "C" {
  * -ILVORESTA_COORD_MAX to ILVORESTA_COORD_MAX, and P and Q differ. An axis moves if its end
  * coordinates differ. D is the product of the absolute differences of the moving axes.
  */
-#define ILVORESTA_N_MAX 512
-#define ILVORESTA_D_MAX 4096
+#define ILVORESTA_COUNT_MAX 512
+#define ILVORESTA_SPACING_MAX 4096
 #define ILVORESTA_COORD_MAX 16384
 
 /* ---- Codes
@@ -44,8 +44,8 @@ extern "C" {
  * anything but ILVORESTA_OK has changed none of the lists lent to it.
  */
 #define ILVORESTA_OK 0               /* accepted; a ray that misses the array is accepted too */
-#define ILVORESTA_BAD_N 1            /* some n is 0 or over ILVORESTA_N_MAX */
-#define ILVORESTA_BAD_D 2            /* some d is 0 or over ILVORESTA_D_MAX */
+#define ILVORESTA_BAD_N 1            /* some n is 0 or over ILVORESTA_COUNT_MAX */
+#define ILVORESTA_BAD_D 2            /* some d is 0 or over ILVORESTA_SPACING_MAX */
 #define ILVORESTA_BAD_PLANE 3        /* a first or far plane is outside its bounds */
 #define ILVORESTA_BAD_DENSITIES 4    /* density_count is not nx*ny*nz */
 #define ILVORESTA_BAD_COORD 5        /* an end coordinate is outside its bounds */

@@ -37,9 +37,9 @@ fn beyond(x: u32, most: u32) -> bool
 }
 
 impl Axis {
-    pub const N_MAX: u32 = 512;
+    pub const COUNT_MAX: u32 = 512;
 
-    pub const D_MAX: u32 = 4096;
+    pub const SPACING_MAX: u32 = 4096;
 
     pub const COORD_MAX: u32 = 16384;
 
@@ -69,10 +69,10 @@ impl Axis {
     pub fn code(self) -> u32
         ensures { λ r. ⌜ r ≡ axisCode bench self ⌝ }
     {
-        if beyond(self.n, Axis::N_MAX) {
+        if beyond(self.n, Axis::COUNT_MAX) {
             return 1;
         }
-        if beyond(self.d, Axis::D_MAX) {
+        if beyond(self.d, Axis::SPACING_MAX) {
             return 2;
         }
         if self.planes_out() {

@@ -1,8 +1,8 @@
 use Prim.Native.Nat.{_≤_, _-_}
 use lib.ListN.{length}
 use borrow.Author.Needs.{needs}
-use Rattle.bench_rays.proofs.places.Statement.{statement}
-use Rattle.bench_rays.proofs.places.Tie as tie
+use Rattle.figures_rays.proofs.places.Statement.{statement}
+use Rattle.figures_rays.proofs.places.Tie as tie
 
 abbrev Inv-loop : tie.InvT-loop
 Inv-loop voxels parts i₀ i = i ≤ length voxels
