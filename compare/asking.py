@@ -96,7 +96,7 @@ def large_calls(dice: Random, many: int) -> Iterator[Call]:
 
 
 def bench_calls(dice: Random) -> Iterator[Call]:
-    """Document 01's rays A to J, its widest ray, and its limits."""
+    """Rays A to J and the widest ray of RULES 11, and the limits of RULES 1."""
     bench = Formula(6, 2**16, 2**16)  # 1, 2, .. 6
     told = [accepted(dice, BENCH, ray, bench) for ray, *_ in RAYS.values()]
     widest = Axis(8, SPACING_MAX, -COORD_MAX)

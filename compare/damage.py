@@ -1,4 +1,4 @@
-"""Text jobs, whole and damaged in every way that document 01 has a refusal for, and in some that it accepts."""
+"""Text jobs, whole and damaged in every way that RULES 10.4 has a refusal for, and in some that it accepts."""
 from __future__ import annotations
 
 from random import Random

@@ -1,5 +1,5 @@
 #!/usr/bin/env python3
-"""Holds include/ilvoresta.h to the constants of the proved code, to document 01, and to C++."""
+"""Holds include/ilvoresta.h to the constants of the proved code, to the rules, and to C++."""
 from __future__ import annotations
 
 import re
@@ -13,7 +13,7 @@ from tally import Tally
 HEADER = machine.ROOT / "include" / "ilvoresta.h"
 AXIS = machine.ROOT / "crates" / "axis" / "src" / "lib.rt"
 
-# document 01: the limits, the code table, and the order of "What a trace hands back"
+# RULES 1, 6 and 5: the limits, the codes, and the order of the numbers
 STATED = {
     "COUNT_MAX": oracle.COUNT_MAX,
     "SPACING_MAX": oracle.SPACING_MAX,
@@ -46,7 +46,7 @@ def main() -> None:
     macros = {name: int(value) for name, value in re.findall(r"^#define ILVORESTA_(\w+) (\d+)\b", HEADER.read_text(), re.M)}
     constants = {name: int(value) for name, value in re.findall(r"\bpub const (\w+): u32 = (\d+);", AXIS.read_text())}
     for name, value in STATED.items():
-        tally.check(macros.get(name) == value, f"ILVORESTA_{name} is {macros.get(name)} in the header, {value} in document 01")
+        tally.check(macros.get(name) == value, f"ILVORESTA_{name} is {macros.get(name)} in the header, {value} by the rules")
     tally.check(macros.keys() == STATED.keys(), f"macros beyond or short of those stated: {macros.keys() ^ STATED.keys()}")
     tally.check(len(constants) == 3, f"the axis description has three limits, and these were found: {constants}")
     for name, value in constants.items():

@@ -1,5 +1,5 @@
 #!/usr/bin/env python3
-"""The independent program: document 01 worked out in exact fractions, voxel by voxel.
+"""The independent program: docs/RULES.md worked out in exact fractions, voxel by voxel.
 
     python3 compare/oracle.py < job     prints what the program `trace` must print
 
@@ -95,7 +95,7 @@ def moving(ray: Ray) -> list[int]:
 
 
 def whole(ray: Ray) -> int:
-    """D, the product of the absolute differences of the moving axes."""
+    """D: |q - p| multiplied over the moving axes (RULES 3)."""
     product = 1
     for a in moving(ray):
         product *= abs(ray.q[a] - ray.p[a])

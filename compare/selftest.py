@@ -1,5 +1,5 @@
 #!/usr/bin/env python3
-"""Holds the independent program to document 01's own figures, and its two methods to each other.
+"""Holds the independent program to the figures of RULES 11, and its two methods to each other.
 
     python3 compare/selftest.py [--seed SEED]
 """
@@ -19,7 +19,7 @@ SCENES = 4000
 BENCH: Grid = (Axis(3, 10, 0), Axis(2, 10, 0), Axis(1, 10, 0))
 DENSITIES = [1, 2, 3, 4, 5, 6]
 
-# document 01, "Rays on the bench grid": ends, entries, planes crossed, D, sum
+# RULES 11: ends, entries, planes crossed, D, sum
 RAYS: dict[str, tuple[Ray, list[Entry], int, int, int]] = {
     "A": (Ray((-10, 5, 5), (40, 5, 5)), [(0, 10), (1, 10), (2, 10)], 2, 50, 60),
     "B": (Ray((40, 5, 5), (-10, 5, 5)), [(2, 10), (1, 10), (0, 10)], 2, 50, 60),
@@ -61,7 +61,7 @@ def limits(tally: Tally) -> None:
 
 
 def consistent(grid: Grid, ray: Ray) -> bool:
-    """Both methods, and what document 01 says of span, planes crossed, entries and points."""
+    """Both methods, and what RULES 4 and 8 say of span, planes crossed, entries and points."""
     found = answer(grid, ray, [1] * (grid[0].n * grid[1].n * grid[2].n))
     planes, inside = crossed(grid, ray), window(grid, ray)
     most = sum(axis.n for axis in grid) - 2

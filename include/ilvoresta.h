@@ -5,7 +5,8 @@
  * other library, keeps no state and allocates nothing, so both calls may be made from any thread and
  * at the same time, as long as no list that one call writes is used by another.
  *
- * Lengths and coordinates are whole numbers in units of 0.1 mm.
+ * Lengths and coordinates are whole numbers in units of 0.1 mm. docs/RULES.md has the rules in full; this
+ * file has what a caller needs of them.
  */
 #ifndef ILVORESTA_H
 #define ILVORESTA_H
@@ -20,7 +21,7 @@ extern "C" {
 /* ---- The grid: nx, ny, nz, dx, dy, dz, bx, by, bz
  *
  * Each axis has n voxels of spacing d from its first plane b on. Plane i lies at b + i*d, i from 0 to
- * n. Voxel i of an axis holds b + i*d and not b + (i+1)*d, so the far face belongs to no voxel.
+ * n. A voxel holds its lower plane and not its upper one, so the far face belongs to none.
  *
  *   n  1 to ILVORESTA_COUNT_MAX
  *   d  1 to ILVORESTA_SPACING_MAX
@@ -32,7 +33,7 @@ extern "C" {
  *
  * From P, where alpha is 0, to Q, where alpha is 1: P + alpha*(Q - P). Every coordinate is from
  * -ILVORESTA_COORD_MAX to ILVORESTA_COORD_MAX, and P and Q differ. An axis moves if its end
- * coordinates differ. D is the product of the absolute differences of the moving axes.
+ * coordinates differ. D multiplies |Q - P| over the axes that move.
  */
 #define ILVORESTA_COUNT_MAX 512
 #define ILVORESTA_SPACING_MAX 4096

@@ -1,4 +1,4 @@
--- Document 01, "Numbers accepted" and the code table's rows on axes. Definitions only. Assumes nothing.
+-- RULES 1 and the rows on axes of RULES 6. Definitions only. Assumes nothing.
 use Prim.Native.Nat.{ℕ}
 use mathlib.Core.Bool.{Bool, _&&_, _||_, not, cond}
 use mathlib.Core.List.{List, [], _∷_}
@@ -16,7 +16,7 @@ pub record Limits : Type 0 where
   pub d : ℕ
   pub coord : ℕ
 
--- "n from 1 to 512. d from 1 to 4096." Planes and end coordinates from -16384 to 16384.
+-- RULES 1: the limits of this bench
 abbrev pub bench : Limits
 bench = record { n = 512; d = 4096; coord = 16384 }
 
@@ -31,7 +31,7 @@ pub record Row : Type 0 where
 abbrev pub row : ℕ → Bool → Row
 row c t = record { code = c; applies = t }
 
--- "Codes are checked in rising order": the code of the first row that applies, 0 (accepted) where none does
+-- RULES 6: the code of the first row that applies, 0 (accepted) where none does
 abbrev pub first : List Row → ℕ
 first [] = 0
 first (r ∷ rs) = cond (r .applies) (r .code) (first rs)
@@ -39,7 +39,7 @@ first (r ∷ rs) = cond (r .applies) (r .code) (first rs)
 abbrev pub planesOut : Limits → Axis → Bool
 planesOut m a = not (inside m (a .b)) || not (inside m (planes a .at (a .n)))
 
--- 1: "some n is 0 or over 512"; 2: "some d is 0 or over 4096"; 3: "a first or far plane is outside its bounds"
+-- RULES 6, codes 1, 2 and 3: n, d, and the first and far plane, each asked of every axis ahead of the next
 abbrev pub axisRows : Limits → ((Axis → Bool) → Bool) → List Row
 axisRows m some =
     row 1 (some (λ a. eqb (a .n) 0 || ltb (m .n) (a .n))) ∷ row 2 (some (λ a. eqb (a .d) 0 || ltb (m .d) (a .d))) ∷ row 3 (some (planesOut m)) ∷ []

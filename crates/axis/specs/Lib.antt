@@ -1,3 +1,3 @@
--- One axis, in document 01's words.
+-- One axis.
 pub mod Leg
 pub mod Codes

@@ -1,4 +1,4 @@
-// The limits of document 01, run: each line is what was tried and the code that answered it.
+// The limits of RULES 1, run: each line is what was tried and the code that answered it.
 use axis::Axis;
 use axis::Checked;
 use libc::STDOUT_FILENO;

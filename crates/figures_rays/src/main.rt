@@ -1,4 +1,4 @@
-// Document 01's rays, limits and codes, run: a line is what was tried, the code and the six numbers, and both lists whole, so
+// The rays of RULES 11, limits and codes, run: a line is what was tried, the code and the six numbers, and both lists whole, so
 // that places which must stay as they were are seen.
 use axis::Axis;
 use libc::STDOUT_FILENO;

@@ -1,4 +1,4 @@
--- Document 01, "Places for drawing", on the C entry points. Definitions only. Assumes nothing.
+-- RULES 9, the C entry points. Definitions only. Assumes nothing.
 use Prim.Native.Nat.{ℕ}
 use mathlib.Core.Path.{_≡_}
 use mathlib.Core.Bool.{false, not, cond}
@@ -17,7 +17,7 @@ use Rattle.place.specs.declared.Place.{Place}
 use Rattle.place.specs.declared.Place.the-variants.{Refused, Miss, Hit}
 use Rattle.place.specs.Answers.{placeOf}
 
--- a grid and a ray given "on numbers"
+-- RULES 9: a grid and a ray from numbers passed by value
 abbrev pub gridOf : (nx ny nz dx dy dz : ℕ) (bx by bz : ℤ) → Grid
 gridOf nx ny nz dx dy dz bx by bz = record {
   x = record { n = nx; d = dx; b = bx };
@@ -28,22 +28,22 @@ gridOf nx ny nz dx dy dz bx by bz = record {
 abbrev pub rayOf : (px py pz qx qy qz : ℤ) → Ray
 rayOf px py pz qx qy qz = record { p = record { x = px; y = py; z = pz }; q = record { x = qx; y = qy; z = qz } }
 
--- 17: "the answer list has another length than stated"
+-- RULES 6, code 17: the answer list has not the length that its call names
 abbrev pub lengthRow : (stated answer : ℕ) → List Row
 lengthRow stated answer = row 17 (not (eqb answer stated)) ∷ []
 
--- "Code 17 is checked last"
+-- RULES 9: 17 comes behind all others
 abbrev pub traceCode : Grid → Ray → (densities voxels parts answer : ℕ) → ℕ
 traceCode g r densities voxels parts answer = first (traceRows bench g r densities voxels parts 0 ++ lengthRow 6 answer)
 
 abbrev pub placeCode : Grid → Ray → (answer : ℕ) → ℕ
 placeCode g r answer = first (gridRows bench g ++ endRows bench r ++ lengthRow 2 answer)
 
--- a lent list afterwards: "on code 0" the new one, else as it was
+-- a lent list afterwards: the new one where the code is 0, else as it was
 abbrev pub after : {A : Type 0} → (code : ℕ) → (new old : List A) → List A
 after code new old = cond (eqb code 0) new old
 
--- "for the trace six numbers, from entries to weighted sum in the order above"
+-- RULES 9: the numbers of RULES 5 from entries on
 abbrev pub sixOf : Grid → Ray → List ℕ → List ℕ
 sixOf g r densities =
     length (listOf (volume g) r)
@@ -60,8 +60,8 @@ twoOf (Refused c) = []
 twoOf Miss = fin false 0 (pos 0) ∷ fin false 0 (pos 0) ∷ []
 twoOf (Hit enter leave) = enter ∷ leave ∷ []
 
--- What an entry point returns and leaves in the lists lent, from what they held: "Each returns the code and on code 0 fills a
--- lent answer list", "no refusal changes the answer list".
+-- RULES 9: what an entry point returns and leaves in the lists lent, from what they held. It fills the answer list where the code
+-- is 0, and touches none where it is not.
 pub record Traced (g : Grid) (r : Ray) (densities voxels parts answer : List ℕ) (code : ℕ) (voxels′ parts′ answer′ : List ℕ) : Type 0 where
   pub code-is : code ≡ traceCode g r (length densities) (length voxels) (length parts) (length answer)
   pub voxels-now : voxels′ ≡ after code (written 0 (listOf (volume g) r) voxels) voxels

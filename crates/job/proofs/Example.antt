@@ -1,4 +1,4 @@
--- Document 01's example of the job follows from the definitions. Assumes nothing.
+-- RULES 10.6: the example follows from the definitions. Assumes nothing.
 use mathlib.Core.List.{[], _∷_, _++_}
 use mathlib.Core.Path.{_≡_, refl}
 use Rattle.ray.specs.Length.{partOf, misses, spanOf, insert, listTo, listOf, total, sumOf, crosses, crossedOf}

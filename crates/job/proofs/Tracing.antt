@@ -24,7 +24,7 @@ use Rattle.job.specs.Rays.{rayCode, traced, passed}
 use Rattle.job.specs.Sound.{Taken}
 use Rattle.job.proofs.Taking.{sides, few-planes}
 
--- "It never exceeds nx + ny + nz - 2."
+-- RULES 4: the most entries there are
 entries-most : (g : Grid) (r : Ray) → first (gridRows bench g) ≡ 0 → first (endRows bench r) ≡ 0 → length (listOf (volume g) r) + 2 ≤ g .x .n + g .y .n + g .z .n
 entries-most g r grid ends =
     let s = sceneOf bench g r in

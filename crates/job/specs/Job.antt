@@ -1,4 +1,4 @@
--- Document 01, "The text job": bytes in, bytes out. Definitions only. Assumes nothing.
+-- RULES 10, the text job: bytes in, bytes out. Definitions only. Assumes nothing.
 use Prim.Native.Nat.{ℕ}
 use mathlib.Core.Bool.{cond}
 use mathlib.Core.List.{List, [], _∷_, _++_}
@@ -11,8 +11,8 @@ use Rattle.job.specs.Line.{Step, goes, stops, badLine, lineStep}
 abbrev pub END : List ℕ
 END = 69 ∷ 78 ∷ 68 ∷ []
 
--- at the input's end, behind the last LF: "20 .. not ended"; "Input that ends before the last DENS prints code 22 with the
--- number one past the last line"; "END: RAY lines answered, refused ones counted."
+-- RULES 10.4 and 10.5, at the input's end: 20 where bytes stand behind the last LF; 22 where DENS lines are still due, at the
+-- line that would have been next; else END with the number of RAY lines
 abbrev pub atEnd : Stand → List ℕ → List ℕ
 atEnd s (b ∷ bs) = badLine (s .lines) 20
 atEnd s [] = cond (eqb (placeAt (s .lines) (s .left)) 2) (lineOf END (s .rays ∷ [])) (badLine (s .lines) 22)
@@ -28,7 +28,7 @@ linesFrom s [] = []
 linesFrom s (l ∷ []) = atEnd s l
 linesFrom s (l ∷ m ∷ ms) = andThen (lineStep s l) (λ s′. linesFrom s′ (m ∷ ms))
 
--- what the job prints from where it stands, "Lines end with LF": and the whole job
+-- RULES 10.1: what the job prints from where it stands, its lines parted by LF; and the whole job
 unfoldable pub jobFrom : Stand → List ℕ → List ℕ
 jobFrom s bytes = linesFrom s (split 10 bytes)
 

@@ -1,4 +1,4 @@
--- The text job, in document 01's words.
+-- The text job.
 pub mod Stand
 pub mod Numbers
 pub mod Rays

@@ -1,4 +1,4 @@
--- Document 01, "The text job": what a line is answered, and where the job then stands. Definitions only. Assumes nothing.
+-- RULES 10.3 and 10.4: what a line is answered, and where the job then stands. Definitions only. Assumes nothing.
 use Prim.Native.Nat.{ℕ, _+_, _-_, _*_}
 use mathlib.Core.Bool.{not, cond}
 use mathlib.Core.List.{List, [], _∷_, _++_}
@@ -20,7 +20,7 @@ use Rattle.job.specs.Stand.{Stand, placeAt}
 use Rattle.job.specs.Numbers.{gridIn, rayIn}
 use Rattle.job.specs.Rays.{rayText}
 
--- what is printed, and where the job then stands; or what is printed, and "the job stops with no END line"
+-- what is printed, and where the job then stands; or what is printed, and the job is over
 pub data Step : Type 0 where
   goes : List ℕ → Stand → Step
   stops : List ℕ → Step
@@ -28,7 +28,7 @@ pub data Step : Type 0 where
 abbrev pub BAD : List ℕ
 BAD = 66 ∷ 65 ∷ 68 ∷ []
 
--- "Such a line prints BAD, its number from 1 and the code"
+-- RULES 10.5: BAD, the number of the next line, and the code
 abbrev pub badLine : (lines code : ℕ) → List ℕ
 badLine lines code = lineOf BAD ((lines + 1) ∷ code ∷ [])
 
@@ -36,24 +36,24 @@ badLine lines code = lineOf BAD ((lines + 1) ∷ code ∷ [])
 abbrev pub unless : (lines code : ℕ) → Step → Step
 unless lines code step = cond (eqb code 0) step (stops (badLine lines code))
 
--- the place of a line that begins with this word, and 3 of an unknown one
+-- RULES 10.3: the place of a line that begins with this word, and 3 of an unknown one
 abbrev pub placeOf : Word → ℕ
 placeOf word.Grid = 0
 placeOf word.Dens = 1
 placeOf word.Ray = 2
 placeOf word.Other = 3
 
--- the fields of a line at a place: its word, and 9 numbers, nx densities or 6 coordinates
+-- RULES 10.1: the fields of a line at a place: its word, and 9 numbers, nx densities or 6 coordinates
 abbrev pub fieldsAt : (nx place : ℕ) → ℕ
 fieldsAt nx place = cond (eqb place 0) 10 (cond (eqb place 1) (nx + 1) 7)
 
--- "21 unknown first word (an empty line too); 22 wrong place; 23 wrong number of fields"
+-- RULES 10.4: 21, 22 and 23
 abbrev pub headRows : (place nx : ℕ) → List (List ℕ) → List Row
 headRows place nx fields =
     let own : ℕ = placeOf (wordOf (getD fields 0 [])) in
     row 21 (eqb own 3) ∷ row 22 (not (eqb own place)) ∷ row 23 (not (eqb (length fields) (fieldsAt nx place))) ∷ []
 
--- "24 a malformed number or a density over 65535; then on GRID codes 1 to 3; then 25, more than 4096 voxels"
+-- RULES 10.4 on a GRID line whose numbers are read: 1, 2, 3, then 25
 abbrev pub gridCode : Grid → ℕ
 gridCode g = first (gridRows bench g ++ (row 25 (ltb 4096 (count (volume g))) ∷ []))
 
@@ -73,14 +73,14 @@ rayStep s (some r) =
     goes (rayText (s .grid) (s .densities) r)
     (record { lines = s .lines + 1; grid = s .grid; left = s .left; densities = s .densities; rays = s .rays + 1 })
 
--- the numbers of a line that is in its place
+-- RULES 10.4, code 24, and then the numbers of a line that is in its place
 unfoldable pub numbersStep : Stand → List (List ℕ) → Step
 numbersStep s fields =
     cond (eqb (placeAt (s .lines) (s .left)) 0) (gridStep (s .lines) (gridIn fields))
     (cond (eqb (placeAt (s .lines) (s .left)) 1) (densStep s (every (naturalTo 65535) (s .grid .x .n) (drop 1 fields)))
     (rayStep s (rayIn fields)))
 
--- a line that LF ends: "20 too long", the refusals behind it in their order, and the answer
+-- RULES 10.4: a line that LF ends: 20, the refusals behind it in their order, and the answer
 unfoldable pub lineStep : Stand → List ℕ → Step
 lineStep s l =
     let fields : List (List ℕ) = split 9 l in

@@ -1,4 +1,4 @@
--- Document 01, "The text job": what a RAY line prints. Definitions only. Assumes nothing.
+-- RULES 10.5: what a RAY line prints. Definitions only. Assumes nothing.
 use Prim.Native.Nat.{ℕ}
 use mathlib.Core.Bool.{cond}
 use mathlib.Core.List.{List, [], _∷_, _++_, map}
@@ -17,7 +17,7 @@ use Rattle.text.specs.Word.{RAY}
 abbrev pub CELL : List ℕ
 CELL = 67 ∷ 69 ∷ 76 ∷ 76 ∷ []
 
--- "A ray refused with 5 or 6": no other code is left, since the grid is accepted and the lists suffice
+-- RULES 10.4: 5 or 6; no other code is left, since the grid is accepted and the lists suffice
 abbrev pub rayCode : Ray → ℕ
 rayCode r = first (endRows bench r)
 
@@ -28,11 +28,11 @@ traced g densities r = cond (eqb (rayCode r) 0) (accepted (volume g) r densities
 unfoldable pub passed : Grid → Ray → List ℕ
 passed g r = cond (eqb (rayCode r) 0) (listOf (volume g) r) []
 
--- "RAY: code, entries, planes crossed, span, D, squared length, sum."
+-- the seven numbers of RULES 5
 abbrev pub figures : Trace → List ℕ
 figures t = t .code ∷ t .entries ∷ t .crossed ∷ t .span ∷ t .d ∷ t .squared ∷ t .sum ∷ []
 
--- "CELL: i, j, k, part."
+-- an entry
 abbrev pub cell : Volume → ℕ → ℕ → List ℕ
 cell v m part = lineOf CELL (place v m X ∷ place v m Y ∷ place v m Z ∷ part ∷ [])
 

@@ -1,4 +1,4 @@
--- Document 01, "The text job": where the job stands between two lines. Definitions only. Assumes nothing.
+-- RULES 10.3: where the job stands between two lines. Definitions only. Assumes nothing.
 use Prim.Native.Nat.{ℕ}
 use mathlib.Core.Bool.{cond}
 use mathlib.Core.List.{List, []}
@@ -27,7 +27,7 @@ noGrid = record { x = noAxis; y = noAxis; z = noAxis }
 abbrev pub atFirst : Stand
 atFirst = record { lines = 0; grid = noGrid; left = 0; densities = []; rays = 0 }
 
--- "First GRID ..; then ny·nz lines DENS ..; then any number of RAY lines": the place of the next line, 0, 1 or 2
+-- which line is due: 0 GRID, 1 DENS while some are left, 2 RAY
 abbrev pub placeAt : (lines left : ℕ) → ℕ
 placeAt lines left = cond (eqb lines 0) 0 (cond (eqb left 0) 2 1)
 

@@ -68,7 +68,7 @@ impl State {
         self
     }
 
-    // Refuses the next line: BAD, its number from 1, and the code.
+    // Refuses the next line: BAD, the number of that line, and the code.
     pub fn refuse(self, code: u32, out: &mut [u8], at: usize) -> Moved
         requires { ⌜ Sound self × Ready self at (length (now out)) ⌝ }
         ensures { λ r. ⌜ (r .state ≡ self) × (r .going ≡ false) × Kept self at r ⌝ }

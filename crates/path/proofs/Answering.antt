@@ -1,4 +1,4 @@
--- From what the code finds to document 01's answer: the code, the fields and both lists afterwards. Assumes nothing.
+-- From what the code finds to the answer of RULES 5: the code, the fields and both lists afterwards. Assumes nothing.
 use Prim.Native.Nat.{ℕ, _+_, _^_, _≤_, _<_}
 use mathlib.Core.Path.{_≡_, refl, sym, ap, _∙_, subst}
 use mathlib.Core.Bool.{Bool, true, false, cond}
@@ -22,7 +22,7 @@ use Rattle.path.specs.Answer.{codeOf, refused, accepted, answerOf, writt
 use Rattle.path.specs.Inside.{sceneOf, Accepted}
 use Rattle.path.proofs.Raised.{moved, able, bench-small, d-bench}
 
--- ---- an answer and two lists that are document 01's
+-- ---- an answer and two lists by RULES 5
 pub record Answers (g : Grid) (r : Ray) (densities vs₀ ps₀ : List ℕ) (filled : ℕ) (a : Trace) (vs ps : List ℕ) : Type 0 where
   pub answer : a ≡ answerOf g r densities (length vs₀) (length ps₀) filled
   pub voxels-now : vs ≡ voxelsAfter g r (length densities) vs₀ ps₀ filled

@@ -1,4 +1,4 @@
--- What document 01 says of the numbers that a trace hands back, for every grid and ends that are accepted, at any limits that are
+-- What RULES 3 and 4 say of the numbers that a trace hands back, for every grid and ends that are accepted, at any limits that are
 -- small enough: the bench's are (`bench-small`). Assumes nothing.
 use Prim.Native.Nat.{ℕ, _+_, _-_, _^_, _≤_, _<_}
 use mathlib.Core.Path.{_≡_, refl, sym, ap, _∙_}
@@ -55,11 +55,11 @@ module _ (m : Limits) (small : Small m) (g : Grid) (r : Ray) (grid : first (grid
   crossed-on : crossedOf (volumeOf scene) (rayOf scene) ≡ crossedOf (volume g) r
   crossed-on = crossed-moved (pos (m .coord)) (volume g) (volumeOf scene) r (rayOf scene) on
 
-  -- "The parts add up to the span."
+  -- RULES 4: all parts together make the span
   pub parts-span : sumList (map (partOf (volume g) r) (listOf (volume g) r)) ≡ spanOf (volume g) r
   parts-span = ap sumList (sym parts-on) ∙ Walked.parts-span scene can ∙ span-moved (pos (m .coord)) (volume g) (volumeOf scene) r (rayOf scene) on
 
-  -- "On a hit, the number of entries is one more than the number of different α among those planes."
+  -- RULES 4: entries by the different α of the planes crossed
   pub entries-alphas : misses (volume g) r ≡ false → length (listOf (volume g) r) ≡ 1 + differentOf (volume g) r
   entries-alphas hit =
       ap length (sym voxels-on)
@@ -70,7 +70,7 @@ module _ (m : Limits) (small : Small m) (g : Grid) (r : Ray) (grid : first (grid
   pub entries-crossed : length (listOf (volume g) r) ≤ crossedOf (volume g) r + 1
   entries-crossed = omega (arith, Walked.entries-crossed scene can, ap length voxels-on, crossed-on)
 
-  -- "It never exceeds nx + ny + nz - 2."
+  -- RULES 4: the most entries there are
   pub entries-few : length (listOf (volume g) r) + 2 ≤ g .x .n + g .y .n + g .z .n
   entries-few = omega (arith, Walked.entries-few scene can, ap length voxels-on)
 
@@ -78,7 +78,7 @@ module _ (m : Limits) (small : Small m) (g : Grid) (r : Ray) (grid : first (grid
   pub crossed-few : crossedOf (volume g) r + 3 ≤ g .x .n + g .y .n + g .z .n
   crossed-few = omega (arith, Walked.crossed-few scene can, crossed-on)
 
-  -- "A miss is code 0 with entries, planes crossed, span and sum 0"
+  -- RULES 5: the numbers of a miss
   pub missed : misses (volume g) r ≡ true → Nothing (volume g) r
   unfolding crossedOf spanOf
   missed h = record {
@@ -102,7 +102,7 @@ span-d v r = go (misses v r)
     go false = less (stop r (array v)) (start r (array v)) (dOf r) (stop-cap r (array v))
 
 module _ (g : Grid) (r : Ray) (grid : first (gridRows bench g) ≡ 0) (ends : first (endRows bench r) ≡ 0) where
-  -- "so D ≤ 2^45"
+  -- RULES 3: the most that D is
   pub d-small : dOf r ≤ 2 ^ 45
   d-small = omega (
     arith,
@@ -110,7 +110,7 @@ module _ (g : Grid) (r : Ray) (grid : first (gridRows bench g) ≡ 0) (ends : fi
     d-moved (pos (bench .coord)) (volume g) (volumeOf (sceneOf bench g r)) r (rayOf (sceneOf bench g r)) (on bench bench-small g r grid ends),
   )
 
-  -- "The weighted sum is the sum of part·density; it stays below 2^61", densities being at most 65535
+  -- RULES 3: the sum stays below 2^61, densities being at most 65535
   pub sum-small : (densities : List ℕ) → ((w : ℕ) → getD densities w 0 ≤ 65535) → sumOf (volume g) r densities < 2 ^ 61
   sum-small densities dense = omega (
     arith,

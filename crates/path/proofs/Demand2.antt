@@ -1,5 +1,5 @@
--- Demand 2, for every grid and every ray, accepted or not: which voxels the list holds, once each and in ray order, with the length of
--- document 01 beside each; and the weighted sum. Assumes nothing.
+-- Demand 2, for every grid and every ray, accepted or not: which voxels the list holds, once each and in ray order, with its length
+-- beside each; and the weighted sum. Assumes nothing.
 use Prim.Native.Nat.{ℕ, zero, suc, _*_, _≤_, _<_}
 use mathlib.Core.Path.{_≡_, refl, sym, ap}
 use mathlib.Core.List.{List, [], _∷_, map, List·Memᴰ, Memᴰ·cast}
@@ -69,12 +69,12 @@ module _ (g : Grid) (r : Ray) where
       apart : (a b : ℕ) → a < b → a ≡ b → ⊥
       apart a b h e = omega arith
 
-  -- The part that stands beside a listed voxel, over D, is the length of document 01 in that voxel.
+  -- RULES 3: the part that stands beside a listed voxel, over D, is the length in that voxel.
   pub lengths : (i : ℕ) → i < length (listOf (volume g) r)
       → Is (dOf r) (lengthIn r (voxel (volume g) (getD (listOf (volume g) r) i 0))) (getD (map (partOf (volume g) r) (listOf (volume g) r)) i 0)
   lengths i h = rw (getD-map (partOf (volume g) r) (listOf (volume g) r) i h) (voxel-length (volume g) r (getD (listOf (volume g) r) i 0))
 
-  -- "Equation (1) of 000 is the sum over all voxels of length times density." It is the sum over the list.
+  -- RULES 3, sum: equation (1) over D.
   pub sum-over-all : (densities : List ℕ) → sumOf (volume g) r densities ≡ total (λ w. partOf (volume g) r w * getD densities w 0) (count (volume g))
   unfolding sumOf
   sum-over-all densities = refl
@@ -82,7 +82,7 @@ module _ (g : Grid) (r : Ray) where
   pub sum-over-list : (densities : List ℕ) → sumOf (volume g) r densities ≡ sumList (map (λ w. partOf (volume g) r w * getD densities w 0) (listOf (volume g) r))
   sum-over-list = sum-list (volume g) r
 
-  -- "Altering the density of a voxel outside the list changes nothing."
+  -- RULES 5: a density outside the list has no say.
   module _ (densities : List ℕ) (w new : ℕ) (outside : List·Memᴰ w (listOf (volume g) r) → ⊥) where
     pub sum-altered : sumOf (volume g) r (set densities w new) ≡ sumOf (volume g) r densities
     sum-altered = sum-outside (volume g) r (set densities w new) densities (λ u h. getD-set-other densities w u new 0 (λ e. outside (Memᴰ·cast (sym e) h)))

@@ -65,7 +65,7 @@ module _ {g : Grid} {r : Ray} {densities vs ps vs′ ps′ : List ℕ} {filled :
       either : (c : ℕ) → cond (eqb c 0) (accepted (volume g) r densities) (refused c) .code ≡ c
       either c = elim (ℕ-discrete c 0) [ yes e ↦ rw (eq-eqb c 0 e) (sym e) | no e ↦ rw (ne-eqb c 0 e) refl ]
 
-  -- ---- "0 | accepted"
+  -- ---- accepted
   pub free : a .code ≡ 0 → Free g r (length densities) (length vs) (length ps) filled
   free h = code-free g r (length densities) (length vs) (length ps) filled (sym code-is ∙ h)
 
@@ -93,7 +93,7 @@ module _ {g : Grid} {r : Ray} {densities vs ps vs′ ps′ : List ℕ} {filled :
     pub sum-is : a .sum ≡ sumOf (volume g) r densities
     sum-is = ap (λ (x : Trace). x .sum) fields
 
-    -- "On code 0 the first 'entries' places of both lists hold the answer and later places are as they were."
+    -- RULES 5: the answer in front of both lists, and nothing else touched
     pub voxels-are : Put filled (a .entries) (listOf (volume g) r) vs vs′
     unfolding voxelsAfter
     voxels-are =
@@ -107,7 +107,7 @@ module _ {g : Grid} {r : Ray} {densities vs ps vs′ ps′ : List ℕ} {filled :
         (put filled (map (partOf (volume g) r) (listOf (volume g) r)) ps (omega (arith, free h .room, free h .accepted .lists-are)) (a .entries)
         (entries-are ∙ sym (length-map (listOf (volume g) r) (partOf (volume g) r))))
 
-  -- ---- "A refusal returns its code and zeros, both lists unchanged."
+  -- ---- refused (RULES 5)
   module _ (h : a .code ≡ 0 → ⊥) where
     code-not-0 : codeOf g r (length densities) (length vs) (length ps) filled ≡ 0 → ⊥
     code-not-0 e = h (code-is ∙ e)
@@ -135,7 +135,7 @@ module _ {g : Grid} {r : Ray} {densities vs ps vs′ ps′ : List ℕ} {a : Trac
   pub parts-front : Front (a .entries) (map (partOf (volume g) r) (listOf (volume g) r)) ps ps′
   parts-front = front (a .entries) (map (partOf (volume g) r) (listOf (volume g) r)) ps ps′ (parts-are t h)
 
-  -- "Length in one voxel": the part beside each voxel that was written, over D
+  -- RULES 3: the part beside each voxel that was written, over D, is the length
   pub lengths-are : (i : ℕ) → i < a .entries → Is (a .d) (lengthIn r (voxel (volume g) (getD vs′ i 0))) (getD ps′ i 0)
   lengths-are i k =
       let e : getD vs′ i 0 ≡ getD (listOf (volume g) r) i 0 = sym (getD-take (a .entries) vs′ i 0 k) ∙ ap (λ (xs : List ℕ). getD xs i 0) (voxels-front .here) in
@@ -157,7 +157,7 @@ accepted-too t h u ends few lists long =
     })
 
 module _ {g : Grid} {r : Ray} {densities vs ps : List ℕ} {filled : ℕ} where
-  -- "Altering the density of a voxel outside the list changes nothing": the call answers and leaves what it would have
+  -- RULES 5: with another density outside the list the call answers and leaves what it would have
   pub altered : {a : Trace} {vs′ ps′ : List ℕ} (w new : ℕ) → (List·Memᴰ w (listOf (volume g) r) → ⊥)
       → Answers g r (set densities w new) vs ps filled a vs′ ps′ → Answers g r densities vs ps filled a vs′ ps′
   altered w new outside t = record {

@@ -83,7 +83,7 @@ module _ (m : Limits) (g : Grid) (r : Ray) (grid : first (gridRows m g) ≡ 0) (
       ends′ Y = told (r .q .y) (ends-inside m r ends Y .1)
       ends′ Z = told (r .q .z) (ends-inside m r ends Z .1)
 
--- "so D ≤ 2^45"
+-- RULES 3: the most that D is
 pub d-bench : (g : Grid) (r : Ray) → first (endRows bench r) ≡ 0 → dOf (rayOf (sceneOf bench g r)) ≤ 2 ^ 45
 d-bench g r ends =
     mul-le-mul {n₂ = 2 ^ 15} {m₂ = 2 ^ 30} (side X) (mul-le-mul {n₂ = 2 ^ 15} {m₂ = 2 ^ 15} (side Y) (side Z))

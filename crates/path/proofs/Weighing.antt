@@ -10,7 +10,7 @@ use lib.Seq.{drop-cons}
 use Rattle.path.specs.Inside.{weighed, summed}
 
 module _ (densities : List ℕ) (small : (v : ℕ) → getD densities v 0 ≤ 65535) where
-  -- "it stays below 2^61": no density is over 65535
+  -- RULES 3: no density is over 65535, so the sum fits
   pub weighed-most : (vs ps : List ℕ) → weighed densities vs ps ≤ summed ps * 65535
   unfolding sum
   weighed-most [] ps = omega arith

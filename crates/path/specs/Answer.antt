@@ -1,4 +1,4 @@
--- Document 01, "What a trace hands back" and "Several rays into one pair of lists". Definitions only. Assumes nothing.
+-- RULES 5 and 7: what a trace hands back, and leaves in the lists. Definitions only. Assumes nothing.
 use Prim.Native.Nat.{ℕ, _+_}
 use mathlib.Core.Bool.{cond}
 use mathlib.Core.List.{List, _++_, map}
@@ -11,11 +11,11 @@ use Rattle.ray.specs.Length.{Volume, volume, dOf, squaredOf, spanOf, partOf, li
 use Rattle.ray.specs.Codes.{traceRows}
 use Rattle.path.specs.declared.Trace.{Trace}
 
--- the code, where `filled` places of lists of these lengths are taken
+-- RULES 6: the code, where `filled` places of lists of these lengths are taken
 abbrev pub codeOf : Grid → Ray → (densities voxels parts filled : ℕ) → ℕ
 codeOf g r densities voxels parts filled = first (traceRows bench g r densities voxels parts filled)
 
--- "A refusal returns its code and zeros."
+-- RULES 5: a refusal is its code and zeros
 abbrev pub refused : ℕ → Trace
 refused c = record { entries = 0; crossed = 0; span = 0; d = 0; squared = 0; sum = 0; code = c }
 
@@ -34,11 +34,11 @@ unfoldable pub answerOf : Grid → Ray → List ℕ → (voxels parts filled : �
 answerOf g r densities voxels parts filled =
     let c : ℕ = codeOf g r (length densities) voxels parts filled in cond (eqb c 0) (accepted (volume g) r densities) (refused c)
 
--- a list with new values behind its first `filled` places, "later places as they were"
+-- RULES 7: a list with new values behind its first `filled` places, and behind those as it was
 abbrev pub written : ℕ → List ℕ → List ℕ → List ℕ
 written filled new old = take filled old ++ (new ++ drop (filled + length new) old)
 
--- the two lists afterwards: the answer behind the places filled, or, on a refusal, as they were
+-- RULES 5 and 7: the two lists afterwards: the answer behind the places filled, or, on a refusal, as they were
 unfoldable pub voxelsAfter : Grid → Ray → (densities : ℕ) → (voxels parts : List ℕ) → ℕ → List ℕ
 voxelsAfter g r densities voxels parts filled =
     cond (eqb (codeOf g r densities (length voxels) (length parts) filled) 0) (written filled (listOf (volume g) r) voxels) voxels

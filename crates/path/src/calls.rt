@@ -80,7 +80,7 @@ fn hitting(s: Scene, f: Frame, densities: &[u16], voxels: &mut [u32], parts: &mu
     }
 }
 
-// Traces one ray: fills the front of the two lent lists, and answers as document 01 says. It refuses whatever it cannot
+// Traces one ray: fills the front of the two lent lists, and answers by RULES 5. It refuses whatever it cannot
 // take, and then both lists are as they were.
 pub fn trace(g: Grid, r: Ray, densities: &[u16], voxels: &mut [u32], parts: &mut [u64]) -> Trace
     ensures { λ a. ⌜ a ≡ answerOf g r (now (densities .entry)) (length (now (voxels .entry))) (length (now (parts .entry))) 0 ⌝ }

@@ -1,4 +1,4 @@
--- Document 01's "Place call on (-10,5,5)→(30,5,5): exactly 0.25 and 1", from the definitions. Assumes nothing.
+-- RULES 11: the place call on (-10,5,5) to (30,5,5), from the definitions. Assumes nothing.
 use mathlib.Core.Path.{_≡_, refl}
 use mathlib.Core.Bool.{false}
 use lib.IntN.{pos, negsuc}

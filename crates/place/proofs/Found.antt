@@ -1,4 +1,4 @@
--- What is found of a ray: whether it is refused, misses or hits as document 01 says, and on a hit αmin and αmax as small fractions,
+-- What is found of a ray: whether it is refused, misses or hits by RULES 4, and on a hit αmin and αmax as small fractions,
 -- at any limits up to half of 2 ^ 20. Assumes nothing.
 use Prim.Native.Nat.{ℕ, _+_, _^_, _≤_, _<_}
 use mathlib.Core.Path.{_≡_, refl, sym, ap, _∙_}

@@ -1,4 +1,4 @@
--- The place call's answer from what was found, and what document 01 says of every hit's two floats, for every grid and ray that the
+-- The place call's answer from what was found, and what RULES 8 says of every hit's two floats, for every grid and ray that the
 -- call accepts, at any limits up to half of 2 ^ 20. Assumes nothing.
 use Prim.Native.Nat.{ℕ, _+_, _*_, _^_, _≤_, _<_}
 use mathlib.Core.Path.{_≡_, refl, _∙_}

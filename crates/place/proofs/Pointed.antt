@@ -1,4 +1,4 @@
--- The point call's answer from what was found, and what document 01 says of every hit's two points, for every grid and ray that the
+-- The point call's answer from what was found, and what RULES 8 says of every hit's two points, for every grid and ray that the
 -- call accepts, at any limits up to half of 2 ^ 20. Assumes nothing.
 use Prim.Native.Nat.{ℕ, _+_, _^_, _≤_, _<_, zero-le}
 use mathlib.Core.Path.{_≡_, refl, sym, _∙_, subst}
@@ -44,8 +44,8 @@ pointed r (Refused c) = nowhere (mark.Refused c)
 pointed r Miss = nowhere mark.Miss
 pointed r (Through e l) = record { mark = mark.Hit; enter = pointAt r (e .num) (e .den); leave = pointAt r (l .num) (l .den) }
 
--- Of the point at α = t / D: "Every coordinate lies within the planes of its axis, both ends included; a coordinate on a plane is that
--- whole number exactly." "Zero is positive zero."
+-- RULES 8, of the point at α = t / D: no coordinate outside the first and far plane of its axis, on a plane the whole number itself,
+-- and no -0
 pub record Drawn (g : Grid) (r : Ray) (t : ℕ) (p : Point) : Type 0 where
   pub low : (s : Side) → T (le (ofInt binary64 (array (volume g) s .lo)) (on p s))
   pub high : (s : Side) → T (le (on p s) (ofInt binary64 (array (volume g) s .hi)))

@@ -25,7 +25,7 @@ one-is : round binary64 false 1 1 ≡ one64
 unfolding round units odd size span climb trailingZeros
 one-is = refl
 
--- "zero is positive zero"
+-- RULES 8: every zero is +0
 abbrev pub ZeroPlain : Float → Type 0
 ZeroPlain x = T (eq x zero64) → x ≡ zero64
 
@@ -43,7 +43,7 @@ zero-plain (fin false zero e) f b h = ap (fin false 0) (no-power e f)
 zero-plain (fin false (suc m) e) f b h =
     absurd (omega (arith, eqb→eq (suc m * up e * 1) (0 * 1 * down e) (and-l (eqb (suc m * up e * 1) (0 * 1 * down e)) _ h), mul-pos (zero-lt-suc m) (up-pos e)))
 
--- "Always 0 ≤ enter < leave ≤ 1, zero is positive zero."
+-- RULES 8: what every hit is
 pub record Shown (enter leave : Float) : Type 0 where
   pub from-zero : T (le zero64 enter)
   pub strict : T (lt enter leave)

@@ -1,4 +1,4 @@
--- Document 01, "Places for drawing". Definitions only. Assumes nothing.
+-- RULES 8: places and points. Definitions only. Assumes nothing.
 use Prim.Native.Nat.{ℕ, suc}
 use mathlib.Core.Bool.{true, false, cond}
 use mathlib.Core.List.{_++_}
@@ -23,33 +23,32 @@ abbrev pub nearest : ℤ → ℕ → Float
 nearest (pos n) d = round binary64 false n d
 nearest (negsuc n) d = round binary64 true (suc n) d
 
--- "codes 1, 2, 3, 5, 6 only"
+-- RULES 8: the codes of grid and ends
 abbrev pub refusalOf : Limits → Grid → Ray → ℕ
 refusalOf m g r = first (gridRows m g ++ endRows m r)
 
--- "It answers one of: refused, with the code; miss; hit, with αmin and αmax as two 64-bit floats", "the float nearest the
--- exact value"
+-- RULES 8: the place call, αmin and αmax each rounded once
 unfoldable pub placeOf : Limits → Grid → Ray → Place
 placeOf m g r =
     cond (eqb (refusalOf m g r) 0)
     (cond (misses (volume g) r) Miss (Hit (round binary64 false (start r (array (volume g))) (dOf r)) (round binary64 false (stop r (array (volume g))) (dOf r))))
     (Refused (refusalOf m g r))
 
--- P + α(Q - P) (000, equation 2) at α = t / d: "the float nearest its exact value"
+-- RULES 8: equation (2) at α = t / d, rounded once
 abbrev pub coordinate : Leg → ℕ → ℕ → Float
 coordinate l t d = nearest (l .p *ℤ pos d +ℤ pos t *ℤ (l .q -ℤ l .p)) d
 
 abbrev pub pointAt : Ray → ℕ → ℕ → Point
 pointAt r t d = record { x = coordinate (leg r X) t d; y = coordinate (leg r Y) t d; z = coordinate (leg r Z) t d }
 
--- "On a miss or refusal all six are positive zero, beside a mark that says which."
+-- RULES 8: no points: six times +0, beside a mark
 abbrev pub nowhere : Mark → Points
 nowhere k =
     let o : Float = fin false 0 (pos 0) in
     let p : Point = record { x = o; y = o; z = o } in
     record { mark = k; enter = p; leave = p }
 
--- "The point call answers the entering and leaving points, each three 64-bit floats, by the same codes."
+-- RULES 8: the point call
 unfoldable pub pointsOf : Limits → Grid → Ray → Points
 pointsOf m g r =
     cond (eqb (refusalOf m g r) 0)

@@ -1,4 +1,4 @@
--- "the difference of the axis that decides αmin or αmax" (document 01, "Places for drawing"): which axis that is, by fractions.
+-- Which axis decides αmin or αmax, by fractions over its own difference.
 -- Definitions only. Assumes nothing.
 use Prim.Native.Nat.{_*_, _^_, _≤_}
 use mathlib.Core.Bool.{Bool, _&&_, cond}

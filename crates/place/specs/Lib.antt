@@ -1,3 +1,3 @@
--- Places for drawing, in document 01's words.
+-- Places and points for drawing.
 pub mod Answers
 pub mod Deciding

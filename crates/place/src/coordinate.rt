@@ -1,4 +1,4 @@
-// The coordinates of a place on the ray, each by one division over the difference of the axis that decides the place.
+// The coordinates of a place on the ray, each by one division over the deciding axis' difference.
 ghost use mathlib.Core.Path.{_≡_};
 ghost use mathlib.Core.Bool.{true};
 ghost use Prim.Native.Nat.{_+_, _-_, _*_, _^_, _≤_, _<_};

@@ -1,4 +1,4 @@
-// Between which places on the ray it is in the array, each as a fraction over the difference of the axis that decides it.
+// Between which places on the ray it is in the array, each as a fraction over the deciding axis' difference.
 ghost use mathlib.Core.Path.{_≡_};
 ghost use mathlib.Core.Bool.{true, _&&_};
 ghost use Prim.Native.Nat.{_-_, _≤_};

@@ -1,4 +1,4 @@
--- Document 01's "Rays on the bench grid" follow from the definitions: one table, one statement. Assumes nothing.
+-- RULES 11: rays A to J follow from the definitions: one table, one statement. Assumes nothing.
 use Prim.Native.Nat.{ℕ}
 use mathlib.Core.Path.{_≡_, refl}
 use mathlib.Core.List.{List, [], _∷_, map}

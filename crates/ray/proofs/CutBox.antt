@@ -21,7 +21,7 @@ coordinate m X = m .x
 coordinate m Y = m .y
 coordinate m Z = m .z
 
--- M is P + α(Q - P) with α, the fraction n/d, strictly between 0 and 1 (000, equation 2)
+-- M is P + α(Q - P) with α, the fraction n/d, strictly between 0 and 1 (equation (2))
 pub record Between (r : Ray) (m : End) : Type 0 where
   pub n : ℕ
   pub d : ℕ

@@ -1,5 +1,5 @@
--- Document 01: "On a hit, the number of entries is one more than the number of different α among those planes", the planes that
--- are crossed. That number, counted over the ticks below D: a tick is an α times D. Assumes nothing.
+-- RULES 4: on a hit the entries are counted by the different α of the planes crossed. How many there are, over the ticks below D: a tick
+-- is an α times D. Assumes nothing.
 use Prim.Native.Nat.{ℕ, zero, suc, _+_, _*_, _≤_, _<_}
 use mathlib.Core.Path.{_≡_, refl, ap, _∙_}
 use mathlib.Core.Bool.{Bool, true, false, _&&_, _||_, cond}
@@ -30,7 +30,7 @@ crossesAt v r x s i = crosses v r s i && eqb (alphaOf v r s i) x
 unfoldable pub crossedAt : Volume → Ray → ℕ → Bool
 crossedAt v r x = let on : Side → Bool = λ s. some (crossesAt v r x s) (v s .n + 1) in on X || (on Y || on Z)
 
--- "the number of different α among those planes"
+-- RULES 4, entries: how many different α
 unfoldable pub differentOf : Volume → Ray → ℕ
 differentOf v r = total (λ x. cond (crossedAt v r x) 1 0) (dOf r)
 
@@ -64,7 +64,7 @@ module _ (test : ℕ → Bool) where
   some-no zero h = refl
   some-no (suc n) h = rw (some-no n (λ i k. h i (omega arith)), h n (omega arith)) refl
 
--- "with α strictly between αmin and αmax"
+-- RULES 4, planes crossed: above αmin and below αmax
 module _ (v : Volume) (r : Ray) (s : Side) (i : ℕ) where
   pub crosses-means : crosses v r s i ≡ true → (moving (leg r s) ≡ true) × (start r (array v) < alphaOf v r s i) × (alphaOf v r s i < stop r (array v))
   unfolding crosses

@@ -1,4 +1,4 @@
--- Document 01's "Length in one voxel" in its own terms, whole numbers and fractions; and that a part over D is that length.
+-- RULES 3, the length in a voxel, in integers and fractions; and that a part over D is that length.
 -- Assumes nothing.
 use Prim.Native.Nat.{ℕ, zero, suc, _*_, _≤_, min, max}
 use mathlib.Core.Path.{_≡_, refl, sym, ap, ap₂, _∙_}
@@ -19,7 +19,7 @@ use Rattle.ray.proofs.Way.{factor-pos}
 use Rattle.ray.proofs.Capped.{on, on-passed, d-side, enter, leave, leave-cap, begin, begin-sides, stop-sides, part, part-voxel, part-held, part-not-held}
 use Rattle.ray.proofs.Fraction.{Fraction, lesser, greater, minus, whole, orZero, least, greatest, At, lesser-at, greater-at, Most1, lesser-most1, Least0, greater-least0, minus-at, Is, or-zero}
 
--- α of the place c, (c - p) / (q - p) (000, equation 4), with no sign below the line
+-- α of the place c, (c - p) / (q - p), equation (4), with no sign below the line
 abbrev pub α : Leg → ℤ → Fraction
 α l c = record { num = cond (ltZ (l .p) (l .q)) (c -ℤ l .p) (l .p -ℤ c); den = natAbs (l .q -ℤ l .p) }
 
@@ -34,8 +34,7 @@ lesserα r b s = lesser (α (leg r s) (b s .lo)) (α (leg r s) (b s .hi))
 abbrev pub greaterα : Ray → (Side → Slab) → Side → Fraction
 greaterα r b s = greater (α (leg r s) (b s .lo)) (α (leg r s) (b s .hi))
 
--- "if a still coordinate is not held by the voxel on that axis, zero. Otherwise the least of 1 and the greater plane α of each
--- moving axis, minus the greatest of 0 and the lesser plane α of each moving axis, or zero if that is negative."
+-- RULES 3: the length in a box. Nothing where a still axis does not hold the ray; else leave less enter, and never below 0
 abbrev pub lengthIn : Ray → (Side → Slab) → Fraction
 lengthIn r b =
     let axes : List Side = movers r (X ∷ Y ∷ Z ∷ []) in

@@ -66,7 +66,7 @@ module _ (v : Volume) (r : Ray) where
   unfolding sumOf
   sum-list densities = list-total (λ m. partOf v r m * getD densities m 0) (λ m i e. rw (e, zero-mul) refl)
 
-  -- "Altering the density of a voxel outside the list changes nothing."
+  -- RULES 5: a density outside the list has no say.
   pub sum-outside : (densities others : List ℕ) → ((m : ℕ) → List·Memᴰ m (listOf v r) → getD densities m 0 ≡ getD others m 0) → sumOf v r densities ≡ sumOf v r others
   sum-outside densities others agree =
       sum-list densities

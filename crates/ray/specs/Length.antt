@@ -1,4 +1,4 @@
--- Document 01, "Geometry as whole numbers" and "What a trace hands back". Nothing here walks. Definitions only. Assumes nothing.
+-- RULES 3 and 4: part, list, sum, span and planes crossed. Nothing here walks. Definitions only. Assumes nothing.
 use Prim.Native.Nat.{ℕ, zero, suc, _+_, _-_, _*_, _/_, _%_, min, max}
 use mathlib.Core.Bool.{Bool, _&&_, _||_, not, cond}
 use mathlib.Core.List.{List, [], _∷_}
@@ -19,7 +19,7 @@ leg r X = record { p = r .p .x; q = r .q .x }
 leg r Y = record { p = r .p .y; q = r .q .y }
 leg r Z = record { p = r .p .z; q = r .q .z }
 
--- "D is the product of the absolute differences of the moving axes"; then what is left of it without one axis
+-- RULES 3: D; then what is left of it without one axis
 abbrev pub dOf : Ray → ℕ
 dOf r = factor (leg r X) * (factor (leg r Y) * factor (leg r Z))
 
@@ -28,7 +28,7 @@ rest r X = factor (leg r Y) * factor (leg r Z)
 rest r Y = factor (leg r X) * factor (leg r Z)
 rest r Z = factor (leg r X) * factor (leg r Y)
 
--- the squared length (000, equation 11)
+-- RULES 5: the squared length, equation (11)
 abbrev pub squaredOf : Ray → ℕ
 squaredOf r = let d : Side → ℕ = λ s. natAbs (leg r s .q -ℤ leg r s .p) in d X * d X + d Y * d Y + d Z * d Z
 
@@ -47,7 +47,7 @@ count v = v X .n * v Y .n * v Z .n
 abbrev pub array : Volume → Side → Slab
 array v s = record { lo = v s .at 0; hi = v s .at (v s .n) }
 
--- "Voxel (i, j, k) counts from 0 and has number i + nx·(j + ny·k)."
+-- RULES 1: the indices i, j, k of a voxel number
 abbrev pub place : Volume → ℕ → Side → ℕ
 place v m X = m % v X .n
 place v m Y = m / v X .n % v Y .n
@@ -56,9 +56,8 @@ place v m Z = m / v X .n / v Y .n
 abbrev pub voxel : Volume → ℕ → Side → Slab
 voxel v m s = record { lo = v s .at (place v m s); hi = v s .at (place v m s + 1) }
 
--- The length in a box, times D: "if a still coordinate is not held by the voxel on that axis, zero. Otherwise the least of 1
--- and the greater plane α of each moving axis, minus the greatest of 0 and the lesser plane α of each moving axis, or zero if
--- that is negative." For the array's box start and stop are αmin and αmax (000, equation 5).
+-- RULES 3: whether every still axis holds the ray; enter and leave times D. For the array's box they are αmin and αmax,
+-- equation (5) (RULES 4).
 abbrev pub holds : Ray → (Side → Slab) → Bool
 holds r b = held (leg r X) (b X) && (held (leg r Y) (b Y) && held (leg r Z) (b Z))
 
@@ -68,19 +67,19 @@ start r b = let e : Side → ℕ = λ s. enters (rest r s) (leg r s) (b s) in ma
 abbrev pub stop : Ray → (Side → Slab) → ℕ
 stop r b = let l : Side → ℕ = λ s. leaves (rest r s) (leg r s) (b s) in min (dOf r) (min (l X) (min (l Y) (l Z)))
 
--- "Its part is this times D."
+-- RULES 3: the length in a voxel, times D
 unfoldable pub partOf : Volume → Ray → ℕ → ℕ
 partOf v r m = cond (holds r (voxel v m)) (stop r (voxel v m) - start r (voxel v m)) 0
 
--- "The ray misses when αmax ≤ αmin or a still coordinate lies outside b ≤ c < b + n·d."
+-- RULES 4
 unfoldable pub misses : Volume → Ray → Bool
 misses v r = leb (stop r (array v)) (start r (array v)) || not (holds r (array v))
 
--- "Span is (αmax - αmin)·D on a hit, else 0."
+-- RULES 4
 unfoldable pub spanOf : Volume → Ray → ℕ
 spanOf v r = cond (misses v r) 0 (stop r (array v) - start r (array v))
 
--- of the voxels below n those with a length above zero, each ahead of the first that starts later: ray order
+-- RULES 4, entries: of the voxels below n those with a part above zero, each ahead of the first that starts later
 unfoldable pub insert : (ℕ → ℕ) → ℕ → List ℕ → List ℕ
 insert starts m [] = m ∷ []
 insert starts m (w ∷ ws) = cond (ltb (starts m) (starts w)) (m ∷ w ∷ ws) (w ∷ insert starts m ws)
@@ -96,11 +95,11 @@ unfoldable pub total : (ℕ → ℕ) → ℕ → ℕ
 total f zero = 0
 total f (suc m) = total f m + f m
 
--- "The weighted sum is the sum of part·density", over all voxels as in equation (1) of 000
+-- RULES 3: the weighted sum, over all voxels as in equation (1)
 unfoldable pub sumOf : Volume → Ray → List ℕ → ℕ
 sumOf v r densities = total (λ m. partOf v r m * getD densities m 0) (count v)
 
--- "the number of pairs of a moving axis and one of its planes with α strictly between αmin and αmax, 0 on a miss"
+-- RULES 4: planes crossed
 unfoldable pub crosses : Volume → Ray → Side → ℕ → Bool
 crosses v r s i =
     let α : ℕ = run (leg r s) (v s .at i) * rest r s in

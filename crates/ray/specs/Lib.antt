@@ -1,3 +1,3 @@
--- The ray through the volume, in document 01's words.
+-- The ray through the volume.
 pub mod Length
 pub mod Codes

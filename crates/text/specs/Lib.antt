@@ -1,4 +1,4 @@
--- The text job's bytes, in document 01's words.
+-- The text job's bytes.
 pub mod Split
 pub mod Word
 pub mod Decimal

@@ -1,4 +1,4 @@
--- Document 01, "The text job": "Output fields are parted by one space", and a line ends with LF. Definitions only. Assumes nothing.
+-- RULES 10.5: a printed line, one space between its fields. Definitions only. Assumes nothing.
 use Prim.Native.Nat.{ℕ}
 use mathlib.Core.List.{List, [], _∷_, _++_}
 use Rattle.text.specs.Decimal.{decimal}

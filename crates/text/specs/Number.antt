@@ -1,5 +1,4 @@
--- Document 01, "The text job": "Numbers are 1 to 6 decimal digits, no plus, no leading zero but 0 itself; only b and ray
--- coordinates may carry a minus, and -0 is refused." Definitions only. Assumes nothing.
+-- RULES 10.2: what bytes are a number. Definitions only. Assumes nothing.
 use Prim.Native.Nat.{ℕ, zero, suc, _+_, _*_, _-_}
 use mathlib.Core.Bool.{Bool, false, cond}
 use mathlib.Core.List.{List, [], _∷_}

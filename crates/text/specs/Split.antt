@@ -1,4 +1,4 @@
--- Document 01, "The text job": "fields are parted by one tab". Definitions only. Assumes nothing.
+-- RULES 10.1: lines and fields, parted by one byte. Definitions only. Assumes nothing.
 use Prim.Native.Nat.{ℕ, zero, suc}
 use mathlib.Core.Bool.{cond}
 use mathlib.Core.List.{List, [], _∷_}

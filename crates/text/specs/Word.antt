@@ -1,4 +1,4 @@
--- Document 01, "The text job": the words that a line may begin with. Definitions only. Assumes nothing.
+-- RULES 10.1: the words that a line may begin with. Definitions only. Assumes nothing.
 use Prim.Native.Nat.{ℕ}
 use mathlib.Core.Bool.{Bool, true, false, _&&_, cond}
 use mathlib.Core.List.{List, [], _∷_}
@@ -23,6 +23,6 @@ same [] (y ∷ ys) = false
 same (x ∷ xs) [] = false
 same (x ∷ xs) (y ∷ ys) = eqb x y && same xs ys
 
--- "21 unknown first word (an empty line too)": every other field is `Other`, the empty one too
+-- RULES 10.4, code 21: every other field is `Other`, an empty one too
 abbrev pub wordOf : List ℕ → Word
 wordOf t = cond (same t GRID) Grid (cond (same t DENS) Dens (cond (same t RAY) Ray Other))

@@ -1,4 +1,4 @@
-// A numeral: 1 to 6 decimal digits, no plus, no leading zero but 0 itself, a minus only on an integer.
+// A number of RULES 10.2; a minus on an integer only.
 ghost use mathlib.Core.Path.{_≡_};
 ghost use Rattle.text.specs.Number.{naturalOf, readNatural, hasMinus, integerOf, readInteger};
 

@@ -1,4 +1,4 @@
--- What document 01 says of the numbers that a trace hands back, proved of ray's definitions, for every scene within the sizes:
+-- What RULES 4 says of the numbers that a trace hands back, proved of ray's definitions, for every scene within the sizes:
 -- the walk is in the proofs only. Assumes nothing.
 use Prim.Native.Nat.{ℕ, _+_, _≤_}
 use mathlib.Core.Path.{_≡_, refl, sym, ap, _∙_}
@@ -39,7 +39,7 @@ module _ (s : Scene) (able : Able s) where
   abbrev r : Ray
   r = rayOf s
 
-  -- "A miss is code 0 with entries, planes crossed, span and sum 0"
+  -- RULES 5: the numbers of a miss
   pub missed-list : misses v r ≡ true → listOf v r ≡ []
   missed-list missed = no-members (listOf v r) (λ m h. let k = list-sound v r m h in off-or-on (misses v r) missed (part-hits s able m (k .0) (k .1)))
 
@@ -47,7 +47,7 @@ module _ (s : Scene) (able : Able s) where
   unfolding sum
   missed-sum densities missed = sum-list v r densities ∙ rw (missed-list missed) refl
 
-  -- "The parts add up to the span."
+  -- RULES 4: all parts together make the span
   pub parts-span : sumList (map (partOf v r) (listOf v r)) ≡ spanOf v r
   unfolding sum spanOf
   parts-span = either-way (misses v r) on-hit (λ missed. rw (missed-list missed, missed) refl)
@@ -60,7 +60,7 @@ module _ (s : Scene) (able : Able s) where
           ∙ found-total s able (o .strides) (o .pace) (o .walk) (o .at) (o .on) (o .ahead)
           ∙ rw (o .tick, hit) refl
 
-  -- "On a hit, the number of entries is one more than the number of different α among those planes."
+  -- RULES 4: entries by the different α of the planes crossed
   pub entries-alphas : misses v r ≡ false → length (listOf v r) ≡ 1 + differentOf v r
   unfolding differentOf
   entries-alphas hit =
@@ -80,6 +80,6 @@ module _ (s : Scene) (able : Able s) where
   crossed-few =
       either-way (misses v r) (few-planes s able) (λ missed. rw missed (omega (arith, able .sized X .some, able .sized Y .some, able .sized Z .some)))
 
-  -- "It never exceeds nx + ny + nz - 2."
+  -- RULES 4: the most entries there are
   pub entries-few : length (listOf v r) + 2 ≤ v X .n + v Y .n + v Z .n
   entries-few = omega (arith, entries-crossed, crossed-few)
