@@ -41,15 +41,15 @@ extern "C" {
 
 /* ---- Codes
  *
- * The code returned is the first, from the top of this list down, that applies. A call that returns
- * anything but ILVORESTA_OK has changed none of the lists lent to it.
+ * Where none of the others applies the code is ILVORESTA_OK; else it is the first that does, from the
+ * top down, and none of the lists lent to the call has changed.
  */
 #define ILVORESTA_OK 0               /* accepted; a ray that misses the array is accepted too */
 #define ILVORESTA_BAD_N 1            /* some n is 0 or over ILVORESTA_COUNT_MAX */
 #define ILVORESTA_BAD_D 2            /* some d is 0 or over ILVORESTA_SPACING_MAX */
-#define ILVORESTA_BAD_PLANE 3        /* a first or far plane is outside its bounds */
+#define ILVORESTA_BAD_PLANE 3        /* on some axis b or b + n*d is beyond its limit */
 #define ILVORESTA_BAD_DENSITIES 4    /* density_count is not nx*ny*nz */
-#define ILVORESTA_BAD_COORD 5        /* an end coordinate is outside its bounds */
+#define ILVORESTA_BAD_COORD 5        /* a coordinate of P or Q is beyond its limit */
 #define ILVORESTA_SAME_ENDS 6        /* P and Q are equal */
 #define ILVORESTA_UNLIKE_LISTS 7     /* voxel_count and part_count differ */
 #define ILVORESTA_SHORT_LISTS 8      /* the lists are shorter than the entries */
