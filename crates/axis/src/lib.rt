@@ -1,10 +1,10 @@
 // One axis of the density volume: its numbers, its limits, and the check of both.
 ghost use mathlib.Core.Path.{_≡_};
-ghost use mathlib.Core.Bool.{_||_};
+ghost use mathlib.Core.Bool.{_||_, cond};
 ghost use lib.Dec.{eqb, ltb};
 ghost use lib.IntN.{pos, _+ℤ_};
 ghost use Rattle.axis.specs.Leg.{natural};
-ghost use Rattle.axis.specs.Codes.{bench, inside, planesOut, axisCode, checkedAxis};
+ghost use Rattle.axis.specs.Codes.{bench, inside, planesOut, axisCode, checkedAxis, told};
 
 // n voxels of spacing d from the first plane b on, in units of 0.1 mm. The fields say nothing of the
 // limits: whoever takes an axis checks it.
@@ -83,6 +83,8 @@ impl Axis {
 
     pub fn checked(n: u32, d: u32, b: i32) -> Checked
         ensures { λ r. ⌜ r ≡ checkedAxis bench (record { n = n; d = d; b = b }) ⌝ }
+        ensures { λ r. ⌜ told r .code ≡ axisCode bench (record { n = n; d = d; b = b }) ⌝ }
+        ensures { λ r. ⌜ told r .axis ≡ cond (eqb (told r .code) 0) (record { n = n; d = d; b = b }) (record { n = 0; d = 0; b = pos 0 }) ⌝ }
     {
         let a = Axis { n, d, b };
         let code = a.code();

@@ -1,11 +1,11 @@
 -- RULES 9, the C entry points. Definitions only. Assumes nothing.
 use Prim.Native.Nat.{ℕ}
 use mathlib.Core.Path.{_≡_}
-use mathlib.Core.Bool.{false, not, cond}
+use mathlib.Core.Bool.{not, cond}
 use mathlib.Core.List.{List, [], _∷_, _++_, map}
-use lib.IntN.{ℤ, pos}
+use lib.IntN.{ℤ}
 use lib.Dec.{eqb}
-use lib.Ieee.{Float, fin}
+use lib.Ieee.{Float}
 use lib.ListN.{length}
 use Rattle.axis.specs.Codes.{bench, Row, row, first}
 use Rattle.ray.specs.declared.Grid.{Grid}
@@ -13,9 +13,7 @@ use Rattle.ray.specs.declared.Ray.{Ray}
 use Rattle.ray.specs.Length.{volume, dOf, squaredOf, spanOf, partOf, listOf, sumOf, crossedOf}
 use Rattle.ray.specs.Codes.{gridRows, endRows, traceRows}
 use Rattle.path.specs.Answer.{written}
-use Rattle.place.specs.declared.Place.{Place}
-use Rattle.place.specs.declared.Place.the-variants.{Refused, Miss, Hit}
-use Rattle.place.specs.Answers.{placeOf}
+use Rattle.place.specs.Answers.{placeOf, told}
 
 -- RULES 9: a grid and a ray from numbers passed by value
 abbrev pub gridOf : (nx ny nz dx dy dz : ℕ) (bx by bz : ℤ) → Grid
@@ -54,20 +52,15 @@ sixOf g r densities =
     ∷ sumOf (volume g) r densities
     ∷ []
 
--- "for the place two floats, enter and leave, both zero on a miss"; a refused place has none
-abbrev pub twoOf : Place → List Float
-twoOf (Refused c) = []
-twoOf Miss = fin false 0 (pos 0) ∷ fin false 0 (pos 0) ∷ []
-twoOf (Hit enter leave) = enter ∷ leave ∷ []
-
--- RULES 9: what an entry point returns and leaves in the lists lent, from what they held. It fills the answer list where the code
--- is 0, and touches none where it is not.
+-- What an entry point returns and leaves in the lists lent, from what they held: "Each returns the code and on code 0 fills a
+-- lent answer list", "no refusal changes the answer list".
 pub record Traced (g : Grid) (r : Ray) (densities voxels parts answer : List ℕ) (code : ℕ) (voxels′ parts′ answer′ : List ℕ) : Type 0 where
   pub code-is : code ≡ traceCode g r (length densities) (length voxels) (length parts) (length answer)
   pub voxels-now : voxels′ ≡ after code (written 0 (listOf (volume g) r) voxels) voxels
   pub parts-now : parts′ ≡ after code (written 0 (map (partOf (volume g) r) (listOf (volume g) r)) parts) parts
   pub answer-now : answer′ ≡ after code (sixOf g r densities) answer
 
+-- RULES 9, the two floats as the place call tells them in numbers: zeros on a miss
 pub record Placed (g : Grid) (r : Ray) (answer : List Float) (code : ℕ) (answer′ : List Float) : Type 0 where
   pub code-is : code ≡ placeCode g r (length answer)
-  pub answer-now : answer′ ≡ after code (twoOf (placeOf bench g r)) answer
+  pub answer-now : answer′ ≡ after code (told (placeOf bench g r) .enter ∷ told (placeOf bench g r) .leave ∷ []) answer

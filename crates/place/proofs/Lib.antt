@@ -11,6 +11,7 @@ pub mod Signed
 pub mod Difference
 pub mod Within
 pub mod OnLeg
+pub mod Told
 pub mod Placed
 pub mod Pointed
 pub mod Bench

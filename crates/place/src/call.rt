@@ -1,7 +1,7 @@
 // The place call and the point call.
 ghost use mathlib.Core.Path.{_≡_};
 ghost use Rattle.axis.specs.Codes.{bench};
-ghost use Rattle.place.specs.Answers.{placeOf, nowhere, pointsOf};
+ghost use Rattle.place.specs.Answers.{refusalOf, placeOf, told, toldOf, nowhere, markCode, pointsOf};
 use crate::Mark;
 use crate::Place;
 use crate::Point;
@@ -15,6 +15,7 @@ use ray::Ray;
 
 pub fn place(g: Grid, r: Ray) -> Place
     ensures { λ a. ⌜ a ≡ placeOf bench g r ⌝ }
+    ensures { λ a. ⌜ told a ≡ toldOf bench g r ⌝ }
 {
     let c = across(g, r);
     match c {
@@ -46,6 +47,7 @@ fn unplaced(mark: Mark) -> Points
 
 pub fn points(g: Grid, r: Ray) -> Points
     ensures { λ a. ⌜ a ≡ pointsOf bench g r ⌝ }
+    ensures { λ a. ⌜ markCode (a .mark) ≡ refusalOf bench g r ⌝ }
 {
     let c = across(g, r);
     match c {

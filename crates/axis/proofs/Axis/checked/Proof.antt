@@ -1,4 +1,4 @@
-use mathlib.Core.Path.{sym, _∙_}
+use mathlib.Core.Path.{refl, sym, _∙_}
 use borrow.Author.Tests.{eq-eqb, ne-eqb}
 use mir.Syntax.{w32}
 use mir.ValLaws.{toZ-ofZ}
@@ -12,13 +12,14 @@ code-requires c κs = search needs
 returns : tie.Need-returns
 returns c =
     let e = toZ-ofZ w32 (c .before .before .args .b) (c .before .before .fits .b) in
-    rw (e, eq-eqb _ _ (sym (rw e at (c .before .code .ensures)) ∙ c .if1 .taken))
+    let none = sym (rw e at (c .before .code .ensures)) ∙ c .if1 .taken in
+    rw e (rw (eq-eqb _ _ none) refl, (sym none, refl))
 
 returns-2 : tie.Need-returns-2
 returns-2 c =
     let e = toZ-ofZ w32 (c .before .before .args .b) (c .before .before .fits .b) in
     let k = rw e at (c .before .code .ensures) in
-    rw (k, ne-eqb _ _ (λ z. c .if1 .left (k ∙ z)))
+    rw (k, ne-eqb _ _ (λ z. c .if1 .left (k ∙ z))) (refl, (refl, refl))
 
 pub checked-spec : {M : Type 1} → statement M
 checked-spec = tie.close (tie.spec code-requires returns returns-2)

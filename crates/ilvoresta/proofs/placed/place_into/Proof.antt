@@ -1,7 +1,8 @@
 -- `placed::place_into` meets its contract. Assumes nothing.
-use mathlib.Core.Path.{sym, _∙_}
+use mathlib.Core.Path.{refl, sym, _∙_}
 use lib.Ieee.{odd, ofFields, ofBits}
-use Rattle.ilvoresta.proofs.Shown.{unplaced, missed, hit}
+use Rattle.place.specs.declared.Place.the-variants.{Miss, Hit}
+use Rattle.ilvoresta.proofs.Shown.{unplaced, placed}
 use borrow.Author.Needs.{needs}
 use Rattle.ilvoresta.proofs.placed.place_into.Statement.{statement}
 use Rattle.ilvoresta.proofs.placed.place_into.Tie as tie
@@ -25,20 +26,20 @@ put-two-requires-2 : tie.Need-put-two-requires-2
 put-two-requires-2 c κs = search needs
 
 returns : tie.Need-returns
-returns c = let a = c .before .before .before .before .before .args in unplaced (a .g) (a .r) (a .answer .now) _ (sym (c .before .a .given .1) ∙ c .before .before .before .place .ensures)
+returns c = let a = c .before .before .before .before .before .args in unplaced (a .g) (a .r) (a .answer .now) _ (sym (c .before .a .given .1) ∙ c .before .before .before .place .ensures .0)
 
 same-length : tie.Need-same-length
 same-length c = search needs
 
 returns-2 : tie.Need-returns-2
 unfolding ofBits ofFields odd
-returns-2 c = let a = c .before .before .before .before .before .before .before .before .args in missed (a .g) (a .r) (a .answer .now) _ _ (sym (c .before .before .before .before .enum-told .given .1) ∙ c .before .before .before .before .before .before .place .ensures) (c .before .before .put-two .ensures .0) (c .before .before .put-two .ensures .1)
+returns-2 c = let a = c .before .before .before .before .before .before .before .before .args in placed (a .g) (a .r) (a .answer .now) Miss _ _ refl (sym (c .before .before .before .before .enum-told .given .1) ∙ c .before .before .before .before .before .before .place .ensures .0) (c .before .before .put-two .ensures .0) (c .before .before .put-two .ensures .1)
 
 same-length-2 : tie.Need-same-length-2
 same-length-2 c = search needs
 
 returns-3 : tie.Need-returns-3
-returns-3 c = let a = c .before .before .before .before .before .before .before .before .before .args in hit (a .g) (a .r) (a .answer .now) _ _ _ _ (sym (c .before .before .before .before .before .a2 .given .1) ∙ c .before .before .before .before .before .before .before .place .ensures) (c .before .before .put-two2 .ensures .0) (c .before .before .put-two2 .ensures .1)
+returns-3 c = let a = c .before .before .before .before .before .before .before .before .before .args in placed (a .g) (a .r) (a .answer .now) (Hit _ _) _ _ refl (sym (c .before .before .before .before .before .a2 .given .1) ∙ c .before .before .before .before .before .before .before .place .ensures .0) (c .before .before .put-two2 .ensures .0) (c .before .before .put-two2 .ensures .1)
 
 pub place-into-spec : {M : Type 1} → statement M
 place-into-spec =

@@ -7,9 +7,10 @@ use Rattle.ray.specs.declared.Ray.{Ray}
 use Rattle.place.specs.declared.fraction.Fraction.{Fraction}
 use Rattle.place.specs.declared.crossing.Crossing.{Crossing}
 use Rattle.place.specs.declared.crossing.Crossing.the-variants.{Miss, Through}
-use Rattle.place.specs.Answers.{placeOf}
+use Rattle.place.specs.Answers.{placeOf, told, toldOf}
 use Rattle.place.proofs.Found.{Hit, hit}
 use Rattle.place.proofs.Placed.{placed, place-is}
+use Rattle.place.proofs.Told.{told-is}
 use borrow.Author.Needs.{needs}
 use Rattle.place.proofs.call.place.Statement.{statement}
 use Rattle.place.proofs.call.place.Tie as tie
@@ -22,8 +23,10 @@ module _ (c : tie.After-across) where
   abbrev r : Ray
   r = c .before .args .r
 
-  answer : (k : Crossing) → c .across .result ≡ k → placed k ≡ placeOf bench g r
-  answer k h = ap placed (sym h ∙ c .across .ensures) ∙ place-is bench g r (omega arith)
+  answer : (k : Crossing) → c .across .result ≡ k → (placed k ≡ placeOf bench g r) × (told (placed k) ≡ toldOf bench g r)
+  answer k h =
+      let e = ap placed (sym h ∙ c .across .ensures) ∙ place-is bench g r (omega arith) in
+      (e, ap told e ∙ told-is bench g r)
 
   hits : (e l : Fraction) → c .across .result ≡ Through e l → Hit bench g r (omega arith) e l
   hits e l h = hit bench g r (omega arith) e l (sym (c .across .ensures) ∙ h)

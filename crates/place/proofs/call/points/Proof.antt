@@ -1,18 +1,20 @@
 -- `call::points` meets its contract. Assumes nothing.
 use native.Mathlib.Omega.{arith}
-use mathlib.Core.Path.{_≡_, sym, ap, _∙_}
+use mathlib.Core.Path.{_≡_, refl, sym, ap, _∙_}
 use mathlib.Core.Bool.{true}
 use Rattle.axis.specs.Codes.{bench, inside}
 use Rattle.ray.specs.declared.Grid.{Grid}
 use Rattle.ray.specs.declared.Ray.{Ray}
 use Rattle.ray.specs.Length.{Side, X, Y, Z, leg}
+use Rattle.place.specs.declared.Points.{Points}
 use Rattle.place.specs.declared.fraction.Fraction.{Fraction}
 use Rattle.place.specs.declared.crossing.Crossing.{Crossing}
 use Rattle.place.specs.declared.crossing.Crossing.the-variants.{Miss, Through}
-use Rattle.place.specs.Answers.{pointsOf}
+use Rattle.place.specs.Answers.{refusalOf, markCode, pointsOf}
 use Rattle.place.proofs.Found.{Hit, hit}
 use Rattle.place.proofs.Placed.{enter-low, leave-low}
 use Rattle.place.proofs.Pointed.{pointed, points-is}
+use Rattle.place.proofs.Told.{mark-is}
 use borrow.Author.Needs.{needs}
 use Rattle.place.proofs.call.points.Statement.{statement}
 use Rattle.place.proofs.call.points.Tie as tie
@@ -25,8 +27,10 @@ module _ (c : tie.After-across) where
   abbrev r : Ray
   r = c .before .args .r
 
-  answer : (k : Crossing) → c .across .result ≡ k → pointed r k ≡ pointsOf bench g r
-  answer k h = ap (pointed r) (sym h ∙ c .across .ensures) ∙ points-is bench g r (omega arith)
+  answer : (k : Crossing) (a : Points) → c .across .result ≡ k → a ≡ pointed r k → (a ≡ pointsOf bench g r) × (markCode (a .mark) ≡ refusalOf bench g r)
+  answer k a h p =
+      let e = p ∙ ap (pointed r) (sym h ∙ c .across .ensures) ∙ points-is bench g r (omega arith) in
+      (e, ap (λ (x : Points). markCode (x .mark)) e ∙ mark-is bench g r)
 
   module _ (e l : Fraction) (h : c .across .result ≡ Through e l) where
     hits : Hit bench g r (omega arith) e l
@@ -68,13 +72,13 @@ point-at-requires-2 c κs =
     (i X, (i Y, (i Z, (H .leaves .small, (leave-low bench (g k) (r k) (omega arith) _ _ H, H .leaves .some)))))
 
 returns : tie.Need-returns
-returns c = c .unplaced .ensures ∙ answer (c .before .before .before .before) _ (c .before .before .c .given .1)
+returns c = answer (c .before .before .before .before) _ _ (c .before .before .c .given .1) (c .unplaced .ensures)
 
 returns-2 : tie.Need-returns-2
-returns-2 c = c .unplaced2 .ensures ∙ answer (c .before .before .before) Miss (c .before .enum-told .given .1)
+returns-2 c = answer (c .before .before .before) Miss _ (c .before .enum-told .given .1) (c .unplaced2 .ensures)
 
 returns-3 : tie.Need-returns-3
-returns-3 c = rw (c .before .point-at .ensures, c .point-at2 .ensures) (answer (c .before .before .before .before .before) _ (c .before .before .before .c2 .given .1))
+returns-3 c = rw (c .before .point-at .ensures, c .point-at2 .ensures) (answer (c .before .before .before .before .before) _ _ (c .before .before .before .c2 .given .1) refl)
 
 pub points-spec : {M : Type 1} → statement M
 points-spec =
