@@ -22,6 +22,7 @@ pub mod Cut
 pub mod Fraction
 pub mod Formula
 pub mod Equation1
+pub mod HitOrMiss
 pub mod Planes
 pub mod Places
 pub mod Apart
