@@ -9,7 +9,7 @@ use lib.ListN.{length, getD, set, length-set}
 use lib.Seq.{getD-set-other}
 use Rattle.ray.specs.declared.Grid.{Grid}
 use Rattle.ray.specs.declared.Ray.{Ray}
-use Rattle.ray.specs.Length.{volume, count, dOf, voxel, start, stop, partOf, listOf, total, sumOf}
+use Rattle.ray.specs.Length.{volume, count, dOf, voxel, start, stop, partOf, listOf, sumOf}
 use Rattle.ray.proofs.Total.{sumList}
 use Rattle.ray.proofs.Rising.{Rising}
 use Rattle.ray.proofs.Listing.{starts, list-sound, list-whole, list-listed}
@@ -18,6 +18,7 @@ use Rattle.ray.proofs.Planes.{grid-rise}
 use Rattle.ray.proofs.Apart.{starts-apart, follows}
 use Rattle.ray.proofs.Fraction.{Is}
 use Rattle.ray.proofs.Formula.{lengthIn, voxel-length}
+use Rattle.ray.proofs.Equation1.{equation1, equation1-is}
 use Rattle.path.specs.Answer.{answerOf}
 use Rattle.path.proofs.Hits.{getD-member}
 
@@ -74,10 +75,9 @@ module _ (g : Grid) (r : Ray) where
       → Is (dOf r) (lengthIn r (voxel (volume g) (getD (listOf (volume g) r) i 0))) (getD (map (partOf (volume g) r) (listOf (volume g) r)) i 0)
   lengths i h = rw (getD-map (partOf (volume g) r) (listOf (volume g) r) i h) (voxel-length (volume g) r (getD (listOf (volume g) r) i 0))
 
-  -- RULES 3, sum: equation (1) over D.
-  pub sum-over-all : (densities : List ℕ) → sumOf (volume g) r densities ≡ total (λ w. partOf (volume g) r w * getD densities w 0) (count (volume g))
-  unfolding sumOf
-  sum-over-all densities = refl
+  -- The weighted sum over D is equation (1), the sum over all voxels of length times density, in fractions. It is the sum over the list.
+  pub sum-over-all : (densities : List ℕ) → Is (dOf r) (equation1 (volume g) r densities) (sumOf (volume g) r densities)
+  sum-over-all = equation1-is (volume g) r
 
   pub sum-over-list : (densities : List ℕ) → sumOf (volume g) r densities ≡ sumList (map (λ w. partOf (volume g) r w * getD densities w 0) (listOf (volume g) r))
   sum-over-list = sum-list (volume g) r

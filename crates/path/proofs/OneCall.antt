@@ -17,10 +17,11 @@ use Rattle.ray.specs.Length.{volume, voxel, dOf, partOf, listOf, sumOf, crossed
 use Rattle.ray.specs.Codes.{endRows, traceRows}
 use Rattle.ray.proofs.Fraction.{Is}
 use Rattle.ray.proofs.Formula.{lengthIn}
+use Rattle.ray.proofs.Equation1.{equation1}
 use Rattle.path.specs.declared.Trace.{Trace}
 use Rattle.path.specs.Answer.{codeOf, refused, accepted, answerOf, written, voxelsAfter, partsAfter}
 use Rattle.path.proofs.Answering.{Answers}
-use Rattle.path.proofs.Demand2.{lengths, answer-altered}
+use Rattle.path.proofs.Demand2.{lengths, sum-over-all, answer-altered}
 use Rattle.path.proofs.Free.{Free, code-free, free-code}
 
 -- A call of `trace`: lent lists vs and ps, it answered a and left vs′ and ps′. `Answers` is the three clauses of its promise, at 0
@@ -93,7 +94,11 @@ module _ {g : Grid} {r : Ray} {densities vs ps vs′ ps′ : List ℕ} {filled :
     pub sum-is : a .sum ≡ sumOf (volume g) r densities
     sum-is = ap (λ (x : Trace). x .sum) fields
 
-    -- RULES 5: the answer in front of both lists, and nothing else touched
+    -- sum over D is equation (1), over all voxels
+    pub sum-equation1 : Is (a .d) (equation1 (volume g) r densities) (a .sum)
+    sum-equation1 = rw (d-is, sum-is) (sum-over-all g r densities)
+
+    -- "On code 0 the first 'entries' places of both lists hold the answer and later places are as they were."
     pub voxels-are : Put filled (a .entries) (listOf (volume g) r) vs vs′
     unfolding voxelsAfter
     voxels-are =

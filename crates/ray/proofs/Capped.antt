@@ -65,7 +65,7 @@ module _ (r : Ray) where
   unfolding on
   on-passed s c = ap (λ (d : ℕ). min d (run (leg r s) c * rest r s)) (d-side r s) ∙ min-rises (λ x. x * rest r s) (times-rises (rest r s)) (factor (leg r s)) (run (leg r s) c)
 
-  still-rest : (s : Side) → moving (leg r s) ≡ false → dOf r ≡ rest r s
+  pub still-rest : (s : Side) → moving (leg r s) ≡ false → dOf r ≡ rest r s
   still-rest s h = d-side r s ∙ rw h (one-mul (rest r s))
 
   pub stop-cap : (b : Side → Slab) → stop r b ≤ dOf r
@@ -78,9 +78,6 @@ module _ (r : Ray) where
   cap-leave : (s : Side) (t : Slab) → min (dOf r) (leaves (rest r s) (leg r s) t) ≡ leave r s t
   unfolding leave on
   cap-leave s t = cap-out (moving (leg r s)) (dOf r) (rest r s) (run (leg r s) (t .lo)) (run (leg r s) (t .hi)) (still-rest s)
-
-  pub leave-cap : (s : Side) (t : Slab) → leave r s t ≤ dOf r
-  leave-cap s t = rw (← cap-leave s t) (min-le-left (dOf r) (leaves (rest r s) (leg r s) t))
 
   -- the three sides of a box, each capped at D
   capped : (f : ℕ → ℕ → ℕ) → Through (min (dOf r)) f f → (x y z x′ y′ z′ : ℕ) → min (dOf r) x ≡ x′ → min (dOf r) y ≡ y′ → min (dOf r) z ≡ z′ → min (dOf r) (f x (f y z)) ≡ f x′ (f y′ z′)

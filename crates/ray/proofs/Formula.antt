@@ -1,23 +1,23 @@
--- RULES 3, the length in a voxel, in integers and fractions; and that a part over D is that length.
+-- The length in one voxel, αmin and αmax (RULES 3, 4) in whole numbers and fractions; and that part, start and stop over D are those.
 -- Assumes nothing.
-use Prim.Native.Nat.{ℕ, zero, suc, _*_, _≤_, min, max}
+use Prim.Native.Nat.{ℕ, zero, suc, _-_, _*_, _≤_, _<_, min, max}
 use mathlib.Core.Path.{_≡_, refl, sym, ap, ap₂, _∙_}
 use mathlib.Core.Bool.{Bool, true, false, cond, true≢false}
 use mathlib.Core.List.{List, [], _∷_, map}
-use native.Mathlib.Nat.{mul-assoc, mul-comm, one-mul, mul-one, min-eq-left, min-eq-right, min-le-right, min-zero, zero-max, max-zero, zero-mul, mul-pos, le-refl, le-trans}
+use native.Mathlib.Nat.{mul-assoc, mul-comm, min-eq-right, min-le-right, min-comm, zero-max, max-zero, zero-mul, le-refl, le-trans}
 use native.Mathlib.Omega.{arith}
 use lib.IntN.{ℤ, pos, negsuc, negℤ, natAbs, _-ℤ_, _*ℤ_, *ℤ-comm, *ℤ-zero, zero-*ℤ}
 use lib.Signed.{ltZ, leZ, nonNeg}
 use borrow.Author.Tests.{not-true}
-use Rattle.axis.specs.Leg.{Leg, moving, factor, run, natural, Slab}
+use Rattle.axis.specs.Leg.{Leg, moving, factor, run, natural, Slab, enters, leaves}
 use Rattle.ray.specs.declared.Ray.{Ray}
-use Rattle.ray.specs.Length.{Side, X, Y, Z, leg, dOf, rest, Volume, voxel, holds, stop, partOf}
-use Rattle.ray.proofs.Through.{min-rises, times-rises}
+use Rattle.ray.specs.Length.{Side, X, Y, Z, leg, dOf, rest, Volume, voxel, holds, start, stop, partOf}
+use Rattle.ray.proofs.Through.{min-rises, max-rises, times-rises}
 use Rattle.ray.proofs.MovedAxis.{le-sign, lt-le}
 use Rattle.ray.proofs.Told.{neg-diff}
 use Rattle.ray.proofs.Way.{factor-pos}
-use Rattle.ray.proofs.Capped.{on, on-passed, d-side, enter, leave, leave-cap, begin, begin-sides, stop-sides, part, part-voxel, part-held, part-not-held}
-use Rattle.ray.proofs.Fraction.{Fraction, lesser, greater, minus, whole, orZero, least, greatest, At, lesser-at, greater-at, Most1, lesser-most1, Least0, greater-least0, minus-at, Is, or-zero}
+use Rattle.ray.proofs.Capped.{d-side, d-pos, still-rest, part, part-voxel}
+use Rattle.ray.proofs.Fraction.{Fraction, lesser, greater, minus, whole, orZero, least, greatest, At, lesser-at, greater-at, Least0, greater-least0, minus-at, Is, exact, above-zero, or-zero}
 
 -- α of the place c, (c - p) / (q - p), equation (4), with no sign below the line
 abbrev pub α : Leg → ℤ → Fraction
@@ -34,11 +34,17 @@ lesserα r b s = lesser (α (leg r s) (b s .lo)) (α (leg r s) (b s .hi))
 abbrev pub greaterα : Ray → (Side → Slab) → Side → Fraction
 greaterα r b s = greater (α (leg r s) (b s .lo)) (α (leg r s) (b s .hi))
 
--- RULES 3: the length in a box. Nothing where a still axis does not hold the ray; else leave less enter, and never below 0
+-- αmin and αmax of a box (000, equation 5; RULES 4): the greatest of 0 and the lesser plane α of each moving axis, and the least of 1
+-- and the greater plane α of each moving axis
+abbrev pub αmin : Ray → (Side → Slab) → Fraction
+αmin r b = greatest (whole 0) (map (lesserα r b) (movers r (X ∷ Y ∷ Z ∷ [])))
+
+abbrev pub αmax : Ray → (Side → Slab) → Fraction
+αmax r b = least (whole 1) (map (greaterα r b) (movers r (X ∷ Y ∷ Z ∷ [])))
+
+-- The length in a box (RULES 3): zero if a still coordinate is not held; otherwise αmax less αmin, or zero if that is negative.
 abbrev pub lengthIn : Ray → (Side → Slab) → Fraction
-lengthIn r b =
-    let axes : List Side = movers r (X ∷ Y ∷ Z ∷ []) in
-    cond (holds r b) (orZero (minus (least (whole 1) (map (greaterα r b) axes)) (greatest (whole 0) (map (lesserα r b) axes)))) (whole 0)
+lengthIn r b = cond (holds r b) (orZero (minus (αmax r b) (αmin r b))) (whole 0)
 
 -- ---- equation 4
 
@@ -69,64 +75,67 @@ pub α-is : (l : Leg) (c : ℤ) → moving l ≡ true → α l c .num *ℤ (l .q
 
 -- ---- in units of 1/D
 
-place-bare : (f u q : ℕ) → min (f * q * f) (u * (f * q)) ≡ min f u * q * f
-place-bare f u q =
-    ap₂ min (mul-assoc f q f) (ap (λ (x : ℕ). u * x) (mul-comm f q)) ∙ min-rises (λ x. x * (q * f)) (times-rises (q * f)) f u ∙ sym (mul-assoc (min f u) q f)
-
 natural-cond : (t : Bool) (x y : ℤ) → natural (cond t x y) ≡ cond t (natural x) (natural y)
 natural-cond true x y = refl
 natural-cond false x y = refl
 
+one-last : (d x y z : ℕ) → min x (min y (min z d)) ≡ min d (min x (min y z))
+one-last d x y z = ap (min x) (assoc y z d) ∙ assoc x (min y z) d ∙ min-comm (min x (min y z)) d
+  where
+    assoc : (a b c : ℕ) → min a (min b c) ≡ min (min a b) c
+    assoc a b c = omega arith
+
 module _ (r : Ray) where
-  α-at : (s : Side) (c : ℤ) → moving (leg r s) ≡ true → At (dOf r) (α (leg r s) c) (on r s c)
+  -- a plane's α, or 0 where it lies behind the start
+  pub α-at : (s : Side) (c : ℤ) → moving (leg r s) ≡ true → At (dOf r) (α (leg r s) c) (run (leg r s) c * rest r s)
   α-at s c h =
       let f : factor (leg r s) ≡ natAbs (leg r s .q -ℤ leg r s .p) = rw h in
       record {
+        d-pos = d-pos r;
         den-pos = rw (← f) (factor-pos (leg r s));
         at =
-            rw (natural-cond (ltZ (leg r s .p) (leg r s .q)) (c -ℤ leg r s .p) (leg r s .p -ℤ c), ← f, on-passed r s c, d-side r s)
-            (place-bare (factor (leg r s)) (run (leg r s) c) (rest r s));
+            rw (natural-cond (ltZ (leg r s .p) (leg r s .q)) (c -ℤ leg r s .p) (leg r s .p -ℤ c), ← f, d-side r s)
+            (ap (λ (x : ℕ). run (leg r s) c * x) (mul-comm (factor (leg r s)) (rest r s)) ∙ sym (mul-assoc (run (leg r s) c) (rest r s) (factor (leg r s))));
       }
 
   module _ (b : Side → Slab) where
+    enter : Side → ℕ
+    enter s = enters (rest r s) (leg r s) (b s)
+
+    leave : Side → ℕ
+    leave s = leaves (rest r s) (leg r s) (b s)
+
     lowest : List Side → ℕ
     lowest [] = dOf r
-    lowest (s ∷ ss) = min (leave r s (b s)) (lowest ss)
+    lowest (s ∷ ss) = min (leave s) (lowest ss)
 
     highest : List Side → ℕ
     highest [] = 0
-    highest (s ∷ ss) = max (enter r s (b s)) (highest ss)
+    highest (s ∷ ss) = max (enter s) (highest ss)
 
     lowest-cap : (ss : List Side) → lowest ss ≤ dOf r
     unfolding lowest
     lowest-cap [] = le-refl (dOf r)
-    lowest-cap (s ∷ ss) = le-trans (min-le-right (leave r s (b s)) (lowest ss)) (lowest-cap ss)
+    lowest-cap (s ∷ ss) = le-trans (min-le-right (leave s) (lowest ss)) (lowest-cap ss)
 
     least-at : (ss : List Side) → At (dOf r) (least (whole 1) (map (greaterα r b) (movers r ss))) (lowest ss)
     unfolding lowest least movers leave
-    least-at [] = record { den-pos = omega arith; at = rw (mul-one (dOf r), one-mul (dOf r)) (min-eq-left (le-refl (dOf r))) }
+    least-at [] = record { d-pos = d-pos r; den-pos = omega arith; at = mul-comm 1 (dOf r) }
     least-at (s ∷ ss) = go (least-at ss) (moving (leg r s)) refl
       where
-        go : At (dOf r) (least (whole 1) (map (greaterα r b) (movers r ss))) (lowest ss) → (m : Bool) → moving (leg r s) ≡ m → At (dOf r) (least (whole 1) (map (greaterα r b) (cond m (s ∷ movers r ss) (movers r ss)))) (min (cond m (max (on r s (b s .lo)) (on r s (b s .hi))) (dOf r)) (lowest ss))
-        go p true h = lesser-at (dOf r) (greater-at (dOf r) (α-at s (b s .lo) h) (α-at s (b s .hi) h)) p
-        go p false h = rw (min-eq-right (lowest-cap ss)) p
-
-    least-most1 : (ss : List Side) → Most1 (least (whole 1) (map (greaterα r b) (movers r ss)))
-    unfolding least movers
-    least-most1 [] = omega arith
-    least-most1 (s ∷ ss) = go (least-most1 ss) (moving (leg r s))
-      where
-        go : Most1 (least (whole 1) (map (greaterα r b) (movers r ss))) → (m : Bool) → Most1 (least (whole 1) (map (greaterα r b) (cond m (s ∷ movers r ss) (movers r ss))))
-        go p true = lesser-most1 (greaterα r b s) (least (whole 1) (map (greaterα r b) (movers r ss))) (least-at ss .den-pos) p
-        go p false = p
+        go : At (dOf r) (least (whole 1) (map (greaterα r b) (movers r ss))) (lowest ss) → (m : Bool) → moving (leg r s) ≡ m → At (dOf r) (least (whole 1) (map (greaterα r b) (cond m (s ∷ movers r ss) (movers r ss)))) (min (cond m (max (run (leg r s) (b s .lo)) (run (leg r s) (b s .hi)) * rest r s) (rest r s)) (lowest ss))
+        go p true h = rw (← max-rises (λ x. x * rest r s) (times-rises (rest r s)) (run (leg r s) (b s .lo)) (run (leg r s) (b s .hi)))
+            (lesser-at (dOf r) (greater-at (dOf r) (α-at s (b s .lo) h) (α-at s (b s .hi) h)) p)
+        go p false h = rw (← still-rest r s h, min-eq-right (lowest-cap ss)) p
 
     greatest-at : (ss : List Side) → At (dOf r) (greatest (whole 0) (map (lesserα r b) (movers r ss))) (highest ss)
     unfolding highest greatest movers enter
-    greatest-at [] = record { den-pos = omega arith; at = rw (zero-mul (dOf r)) (min-zero (dOf r * 1)) }
+    greatest-at [] = record { d-pos = d-pos r; den-pos = omega arith; at = zero-mul (dOf r) }
     greatest-at (s ∷ ss) = go (greatest-at ss) (moving (leg r s)) refl
       where
-        go : At (dOf r) (greatest (whole 0) (map (lesserα r b) (movers r ss))) (highest ss) → (m : Bool) → moving (leg r s) ≡ m → At (dOf r) (greatest (whole 0) (map (lesserα r b) (cond m (s ∷ movers r ss) (movers r ss)))) (max (cond m (min (on r s (b s .lo)) (on r s (b s .hi))) 0) (highest ss))
-        go p true h = greater-at (dOf r) (lesser-at (dOf r) (α-at s (b s .lo) h) (α-at s (b s .hi) h)) p
+        go : At (dOf r) (greatest (whole 0) (map (lesserα r b) (movers r ss))) (highest ss) → (m : Bool) → moving (leg r s) ≡ m → At (dOf r) (greatest (whole 0) (map (lesserα r b) (cond m (s ∷ movers r ss) (movers r ss)))) (max (cond m (min (run (leg r s) (b s .lo)) (run (leg r s) (b s .hi)) * rest r s) 0) (highest ss))
+        go p true h = rw (← min-rises (λ x. x * rest r s) (times-rises (rest r s)) (run (leg r s) (b s .lo)) (run (leg r s) (b s .hi)))
+            (greater-at (dOf r) (lesser-at (dOf r) (α-at s (b s .lo) h) (α-at s (b s .hi) h)) p)
         go p false h = rw (zero-max (highest ss)) p
 
     greatest-least0 : (ss : List Side) → Least0 (greatest (whole 0) (map (lesserα r b) (movers r ss)))
@@ -138,31 +147,35 @@ module _ (r : Ray) where
         go p true = greater-least0 (lesserα r b s) (greatest (whole 0) (map (lesserα r b) (movers r ss))) p
         go p false = p
 
-    lowest-stop : lowest (X ∷ Y ∷ Z ∷ []) ≡ stop r b
-    unfolding lowest
-    lowest-stop = ap (λ (x : ℕ). min (leave r X (b X)) (min (leave r Y (b Y)) x)) (min-eq-left (leave-cap r Z (b Z))) ∙ sym (stop-sides r b)
+    pub αmin-least0 : Least0 (αmin r b)
+    αmin-least0 = greatest-least0 (X ∷ Y ∷ Z ∷ [])
 
-    highest-begin : highest (X ∷ Y ∷ Z ∷ []) ≡ begin r b
-    unfolding highest
-    highest-begin = ap (λ (x : ℕ). max (enter r X (b X)) (max (enter r Y (b Y)) x)) (max-zero (enter r Z (b Z))) ∙ sym (begin-sides r b)
+    pub αmin-at : At (dOf r) (αmin r b) (start r b)
+    unfolding highest enter
+    αmin-at = rw (← max-zero (enter Z)) (greatest-at (X ∷ Y ∷ Z ∷ []))
 
-    -- The length in a box is part over D: n/d with n·D equal to part·d.
+    pub αmax-at : At (dOf r) (αmax r b) (stop r b)
+    unfolding lowest leave
+    αmax-at = rw (← one-last (dOf r) (leave X) (leave Y) (leave Z)) (least-at (X ∷ Y ∷ Z ∷ []))
+
+    -- αmin is start over D, whatever the ray. αmax, or zero if it is negative, is stop over D, and αmax itself where the ray meets the box.
+    pub αmin-is : Is (dOf r) (αmin r b) (start r b)
+    αmin-is = exact (dOf r) αmin-at αmin-least0
+
+    pub αmax-or-zero : Is (dOf r) (orZero (αmax r b)) (stop r b)
+    αmax-or-zero = or-zero (dOf r) αmax-at
+
+    pub αmax-is : start r b < stop r b → Is (dOf r) (αmax r b) (stop r b)
+    αmax-is h = above-zero (dOf r) αmax-at (omega (arith, h))
+
+    -- The length in a box is part over D.
     pub length-is : Is (dOf r) (lengthIn r b) (part r b)
-    length-is = go (holds r b) refl
+    unfolding part
+    length-is = go (holds r b)
       where
-        axes : List Side
-        axes = movers r (X ∷ Y ∷ Z ∷ [])
-
-        difference : Fraction
-        difference = minus (least (whole 1) (map (greaterα r b) axes)) (greatest (whole 0) (map (lesserα r b) axes))
-
-        go : (t : Bool) → holds r b ≡ t → Is (dOf r) (cond t (orZero difference) (whole 0)) (part r b)
-        go true h =
-            let p = least-at (X ∷ Y ∷ Z ∷ []) in
-            let q = greatest-at (X ∷ Y ∷ Z ∷ []) in
-            or-zero (dOf r) difference (part r b) (mul-pos (p .den-pos) (q .den-pos))
-            (rw (part-held r b h, ← lowest-stop, ← highest-begin) (minus-at (dOf r) p q (least-most1 (X ∷ Y ∷ Z ∷ [])) (greatest-least0 (X ∷ Y ∷ Z ∷ []))))
-        go false h = rw (part-not-held r b h) (record { den-pos = omega arith; is = ap pos (zero-mul (dOf r)) })
+        go : (t : Bool) → Is (dOf r) (cond t (orZero (minus (αmax r b) (αmin r b))) (whole 0)) (cond t (stop r b - start r b) 0)
+        go true = or-zero (dOf r) (minus-at (dOf r) αmax-at αmin-at αmin-least0)
+        go false = record { d-pos = d-pos r; den-pos = omega arith; is = ap pos (zero-mul (dOf r)) }
 
 -- So of every voxel.
 pub voxel-length : (v : Volume) (r : Ray) (m : ℕ) → Is (dOf r) (lengthIn r (voxel v m)) (partOf v r m)

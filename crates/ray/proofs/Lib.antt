@@ -21,6 +21,8 @@ pub mod CutBox
 pub mod Cut
 pub mod Fraction
 pub mod Formula
+pub mod Equation1
+pub mod HitOrMiss
 pub mod Planes
 pub mod Places
 pub mod Apart

@@ -1,0 +1,37 @@
+-- Siddon's equation (1) in fractions: the sum over all voxels of length times density; and that the weighted sum over D is that sum.
+-- Assumes nothing.
+use Prim.Native.Nat.{ℕ, zero, suc, _*_}
+use mathlib.Core.Path.{ap}
+use mathlib.Core.List.{List}
+use native.Mathlib.Nat.{zero-mul}
+use native.Mathlib.Omega.{arith}
+use lib.IntN.{pos}
+use lib.ListN.{getD}
+use Rattle.ray.specs.declared.Ray.{Ray}
+use Rattle.ray.specs.Length.{dOf, Volume, count, voxel, partOf, total, sumOf}
+use Rattle.ray.proofs.Capped.{d-pos}
+use Rattle.ray.proofs.Fraction.{Fraction, plus, times, whole, Is, plus-is, times-is}
+use Rattle.ray.proofs.Formula.{lengthIn, voxel-length}
+
+-- the sum over the numbers below n
+unfoldable pub totalᶠ : (ℕ → Fraction) → ℕ → Fraction
+totalᶠ f zero = whole 0
+totalᶠ f (suc m) = plus (totalᶠ f m) (f m)
+
+-- length times density, over all voxels (000, equation 1; RULES 3)
+unfoldable pub equation1 : Volume → Ray → List ℕ → Fraction
+equation1 v r densities = totalᶠ (λ m. times (lengthIn r (voxel v m)) (getD densities m 0)) (count v)
+
+total-is : (d : ℕ) (f : ℕ → Fraction) (g : ℕ → ℕ) → Is d (whole 0) 0 → ((m : ℕ) → Is d (f m) (g m)) → (n : ℕ) → Is d (totalᶠ f n) (total g n)
+unfolding totalᶠ total
+total-is d f g o h zero = o
+total-is d f g o h (suc n) = plus-is d (total-is d f g o h n) (h n)
+
+-- The weighted sum over D is the sum of equation (1).
+pub equation1-is : (v : Volume) (r : Ray) (densities : List ℕ) → Is (dOf r) (equation1 v r densities) (sumOf v r densities)
+unfolding equation1 sumOf
+equation1-is v r densities =
+    total-is (dOf r) (λ m. times (lengthIn r (voxel v m)) (getD densities m 0)) (λ m. partOf v r m * getD densities m 0)
+    (record { d-pos = d-pos r; den-pos = omega arith; is = ap pos (zero-mul (dOf r)) })
+    (λ m. times-is (dOf r) (voxel-length v r m) (getD densities m 0))
+    (count v)
