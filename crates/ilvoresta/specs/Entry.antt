@@ -52,8 +52,8 @@ sixOf g r densities =
     ∷ sumOf (volume g) r densities
     ∷ []
 
--- What an entry point returns and leaves in the lists lent, from what they held: "Each returns the code and on code 0 fills a
--- lent answer list", "no refusal changes the answer list".
+-- RULES 9: what an entry point returns and leaves in the lists lent, from what they held. It fills the answer list where the code
+-- is 0, and touches none where it is not.
 pub record Traced (g : Grid) (r : Ray) (densities voxels parts answer : List ℕ) (code : ℕ) (voxels′ parts′ answer′ : List ℕ) : Type 0 where
   pub code-is : code ≡ traceCode g r (length densities) (length voxels) (length parts) (length answer)
   pub voxels-now : voxels′ ≡ after code (written 0 (listOf (volume g) r) voxels) voxels

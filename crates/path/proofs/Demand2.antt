@@ -75,7 +75,7 @@ module _ (g : Grid) (r : Ray) where
       → Is (dOf r) (lengthIn r (voxel (volume g) (getD (listOf (volume g) r) i 0))) (getD (map (partOf (volume g) r) (listOf (volume g) r)) i 0)
   lengths i h = rw (getD-map (partOf (volume g) r) (listOf (volume g) r) i h) (voxel-length (volume g) r (getD (listOf (volume g) r) i 0))
 
-  -- The weighted sum over D is equation (1), the sum over all voxels of length times density, in fractions. It is the sum over the list.
+  -- RULES 3, sum: over D it is equation (1), in fractions over all voxels. It is the sum over the list too.
   pub sum-over-all : (densities : List ℕ) → Is (dOf r) (equation1 (volume g) r densities) (sumOf (volume g) r densities)
   sum-over-all = equation1-is (volume g) r
 

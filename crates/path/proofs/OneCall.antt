@@ -98,7 +98,7 @@ module _ {g : Grid} {r : Ray} {densities vs ps vs′ ps′ : List ℕ} {filled :
     pub sum-equation1 : Is (a .d) (equation1 (volume g) r densities) (a .sum)
     sum-equation1 = rw (d-is, sum-is) (sum-over-all g r densities)
 
-    -- "On code 0 the first 'entries' places of both lists hold the answer and later places are as they were."
+    -- RULES 5: the answer in front of both lists, and nothing else touched
     pub voxels-are : Put filled (a .entries) (listOf (volume g) r) vs vs′
     unfolding voxelsAfter
     voxels-are =

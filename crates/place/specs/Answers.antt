@@ -27,15 +27,14 @@ nearest (negsuc n) d = round binary64 true (suc n) d
 abbrev pub refusalOf : Limits → Grid → Ray → ℕ
 refusalOf m g r = first (gridRows m g ++ endRows m r)
 
--- RULES 8, the floats nearest αmin and αmax (000, equation 5)
+-- RULES 8: the floats nearest αmin and αmax
 abbrev pub enterOf : Grid → Ray → Float
 enterOf g r = round binary64 false (start r (array (volume g))) (dOf r)
 
 abbrev pub leaveOf : Grid → Ray → Float
 leaveOf g r = round binary64 false (stop r (array (volume g))) (dOf r)
 
--- "It answers one of: refused, with the code; miss; hit, with αmin and αmax as two 64-bit floats", "the float nearest the
--- exact value"
+-- RULES 8: the place call, αmin and αmax each rounded once
 unfoldable pub placeOf : Limits → Grid → Ray → Place
 placeOf m g r = cond (eqb (refusalOf m g r) 0) (cond (misses (volume g) r) Miss (Hit (enterOf g r) (leaveOf g r))) (Refused (refusalOf m g r))
 

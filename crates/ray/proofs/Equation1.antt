@@ -1,4 +1,4 @@
--- Siddon's equation (1) in fractions: the sum over all voxels of length times density; and that the weighted sum over D is that sum.
+-- Equation (1) in fractions, over all voxels; and that the weighted sum over D is what it says (RULES 3).
 -- Assumes nothing.
 use Prim.Native.Nat.{ℕ, zero, suc, _*_}
 use mathlib.Core.Path.{ap}
@@ -18,7 +18,7 @@ unfoldable pub totalᶠ : (ℕ → Fraction) → ℕ → Fraction
 totalᶠ f zero = whole 0
 totalᶠ f (suc m) = plus (totalᶠ f m) (f m)
 
--- length times density, over all voxels (000, equation 1; RULES 3)
+-- RULES 3, equation (1): length times density, added over all voxels
 unfoldable pub equation1 : Volume → Ray → List ℕ → Fraction
 equation1 v r densities = totalᶠ (λ m. times (lengthIn r (voxel v m)) (getD densities m 0)) (count v)
 

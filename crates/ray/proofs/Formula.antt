@@ -34,15 +34,15 @@ lesserα r b s = lesser (α (leg r s) (b s .lo)) (α (leg r s) (b s .hi))
 abbrev pub greaterα : Ray → (Side → Slab) → Side → Fraction
 greaterα r b s = greater (α (leg r s) (b s .lo)) (α (leg r s) (b s .hi))
 
--- αmin and αmax of a box (000, equation 5; RULES 4): the greatest of 0 and the lesser plane α of each moving axis, and the least of 1
--- and the greater plane α of each moving axis
+-- RULES 3 and 4, enter and leave of a box, equation (5): over the moving axes the largest of 0 and the lesser α, the smallest of 1 and
+-- the greater α
 abbrev pub αmin : Ray → (Side → Slab) → Fraction
 αmin r b = greatest (whole 0) (map (lesserα r b) (movers r (X ∷ Y ∷ Z ∷ [])))
 
 abbrev pub αmax : Ray → (Side → Slab) → Fraction
 αmax r b = least (whole 1) (map (greaterα r b) (movers r (X ∷ Y ∷ Z ∷ [])))
 
--- The length in a box (RULES 3): zero if a still coordinate is not held; otherwise αmax less αmin, or zero if that is negative.
+-- RULES 3: the length in a box. Nothing where a still axis does not hold the ray; else leave less enter, and never below 0.
 abbrev pub lengthIn : Ray → (Side → Slab) → Fraction
 lengthIn r b = cond (holds r b) (orZero (minus (αmax r b) (αmin r b))) (whole 0)
 
