@@ -13,5 +13,6 @@ pub mod Within
 pub mod OnLeg
 pub mod Placed
 pub mod Pointed
+pub mod Equation5
 pub mod Bench
 pub mod Once
