@@ -1,7 +1,7 @@
 -- Demand 3 read off the promises, a ray cut at a point M of whole coordinates: three calls of `trace`, from P to Q, from P to M and from
 -- M to Q, each lent lists of its own. Assumes nothing.
 use Prim.Native.Nat.{ℕ, _+_, _*_, _≤_}
-use mathlib.Core.Path.{_≡_, refl, sym, ap₂, _∙_}
+use mathlib.Core.Path.{_≡_, sym, ap₂, _∙_}
 use mathlib.Core.Bool.{true}
 use mathlib.Core.List.{List, map}
 use native.Mathlib.Omega.{arith}
@@ -31,8 +31,8 @@ mean-as : (f f₁ f₂ d d₁ d₂ x x₁ x₂ e e₁ e₂ y y₁ y₂ : ℕ) �
     → MeanOf f f₁ f₂ e e₁ e₂ y y₁ y₂ → MeanOf f f₁ f₂ d d₁ d₂ x x₁ x₂
 mean-as f f₁ f₂ d d₁ d₂ x x₁ x₂ e e₁ e₂ y y₁ y₂ hd hd₁ hd₂ hx hx₁ hx₂ h = rw (hd, hd₁, hd₂, hx, hx₁, hx₂) h
 
-mean-none : (f f₁ f₂ d d₁ d₂ : ℕ) → MeanOf f f₁ f₂ d d₁ d₂ 0 0 0
-mean-none f f₁ f₂ d d₁ d₂ = simp (mul-zero, zero-mul)
+mean-none : {f f₁ f₂ d d₁ d₂ x x₁ x₂ : ℕ} → MeanOf f f₁ f₂ d d₁ d₂ x x₁ x₂ → MeanOf f f₁ f₂ d d₁ d₂ 0 0 0
+mean-none h = record { f-pos = h .f-pos; d-pos = h .d-pos; d₁-pos = h .d₁-pos; d₂-pos = h .d₂-pos; is = simp (mul-zero, zero-mul) }
 
 module _ {g : Grid} {r : Ray} {densities vs ps vs′ ps′ : List ℕ} {a : Trace} (t : Traced g r densities vs ps a vs′ ps′) (h : a .code ≡ 0) where
   share-is : (w : ℕ) → shareIn w a vs′ ps′ ≡ share w (listOf (volume g) r) (map (partOf (volume g) r) (listOf (volume g) r))
@@ -81,11 +81,11 @@ module _ {g : Grid} {r : Ray} {m : End} {densities vs ps vs′ ps′ : List ℕ}
                 (share-is one h₁ w ∙ share-part (volume g) (near r m) w l)
                 (share-is two h₂ w ∙ share-part (volume g) (far r m) w l)
                 (cut .part s moves w)
-            | no l ↦ mean (a .d) (a₁ .d) (a₂ .d) 0 0 0 refl refl refl
+            | no l ↦ mean _ _ _ 0 0 0 (d-is whole h) (d-is one h₁) (d-is two h₂)
                 (share-is whole h w ∙ share-none (volume g) r w (omega arith))
                 (share-is one h₁ w ∙ share-none (volume g) (near r m) w (omega arith))
                 (share-is two h₂ w ∙ share-none (volume g) (far r m) w (omega arith))
-                (mean-none (difference r s) (difference (near r m) s) (difference (far r m) s) (a .d) (a₁ .d) (a₂ .d))
+                (mean-none (cut .part s moves w))
           ]
 
       pub cut-sums : (s : Side) → moving (leg r s) ≡ true

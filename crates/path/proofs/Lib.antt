@@ -15,3 +15,4 @@ pub mod Room
 pub mod TurnedCalls
 pub mod Share
 pub mod CutCalls
+pub mod AppendCalls

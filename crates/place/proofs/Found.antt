@@ -20,7 +20,7 @@ use Rattle.place.specs.Deciding.{stretchOf, αmin, αmax, joinedOf, cros
 use Rattle.place.specs.Answers.{refusalOf}
 use Rattle.place.proofs.Accepted.{Accepted, accepted}
 use Rattle.place.proofs.Deciding.{Is, below-is, αmin-is, αmax-is}
-use Rattle.place.proofs.Sizes.{all-sized, d-some}
+use Rattle.place.proofs.Sizes.{all-sized}
 
 turned : {A : Type 0} (a b : Bool) (x y : A) → cond b (cond (not a) x y) y ≡ cond (a || not b) y x
 turned true true x y = refl
@@ -47,16 +47,16 @@ module _ (m : Limits) (g : Grid) (r : Ray) where
   module _ (room : m .coord + m .coord ≤ 2 ^ 20) where
     module _ (ok : Accepted m g r) where
       enter-is : Is enter (start r (array (volume g))) (dOf r)
-      enter-is = αmin-is r (array (volume g)) (d-some m room g r ok) (all-sized m room g r ok)
+      enter-is = αmin-is r (array (volume g)) (all-sized m room g r ok)
 
       leave-is : Is leave (stop r (array (volume g))) (dOf r)
-      leave-is = αmax-is r (array (volume g)) (d-some m room g r ok) (all-sized m room g r ok)
+      leave-is = αmax-is r (array (volume g)) (all-sized m room g r ok)
 
       joined-is : joinedOf (on X) (on Y) (on Z) ≡ cond (misses (volume g) r) Miss (Through enter leave)
       unfolding joinedOf misses
       joined-is =
           ap (λ (t : Bool). cond (holds r (array (volume g))) (cond t (Through enter leave) Miss) Miss)
-          (below-is enter leave _ _ (dOf r) (d-some m room g r ok) enter-is leave-is ∙ lt-not-le (start r (array (volume g))) (stop r (array (volume g))))
+          (below-is enter leave _ _ (dOf r) enter-is leave-is ∙ lt-not-le (start r (array (volume g))) (stop r (array (volume g))))
           ∙ turned (leb (stop r (array (volume g))) (start r (array (volume g)))) (holds r (array (volume g))) (Through enter leave) Miss
 
     crossing-is : crossingOf m g r ≡ cond (eqb (refusalOf m g r) 0) (cond (misses (volume g) r) Miss (Through enter leave)) (Refused (refusalOf m g r))

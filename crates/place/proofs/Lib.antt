@@ -14,5 +14,6 @@ pub mod OnLeg
 pub mod Told
 pub mod Placed
 pub mod Pointed
+pub mod Equation5
 pub mod Bench
 pub mod Once

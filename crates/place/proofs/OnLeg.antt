@@ -1,4 +1,4 @@
--- One coordinate of a place on the ray: over a small fraction it is what it is over D, and it is between the planes of an accepted
+-- One coordinate of a place on the ray: it is the same at equal fractions, and it is between the planes of an accepted
 -- axis that holds the place. Assumes nothing.
 use Prim.Native.Nat.{ℕ, _*_, _≤_, _<_}
 use mathlib.Core.Path.{_≡_, sym, ap, _∙_, subst}
@@ -40,19 +40,20 @@ module _ (m : Limits) (l : Leg) (from : inside m (l .p) ≡ true) (to : inside m
   pub exactly-is : (t d : ℕ) → t ≤ d → exactly l t d ≡ pos (spot p q t d) -ℤ pos (m .coord * d)
   exactly-is t d h = point-is (m .coord) l (inside-low m (l .p) from) (inside-low m (l .q) to) t d h
 
-  -- over the small fraction as over D
-  pub coordinate-is : (f : Fraction) (t d : ℕ) → 0 < d → t ≤ d → Is f t d → coordinate l (f .num) (f .den) ≡ coordinate l t d
-  coordinate-is f t d D h F =
+  -- at a/b as at t/d, where the two are equal
+  pub coordinate-is : (a b t d : ℕ) → 0 < b → 0 < d → t ≤ d → a * d ≡ t * b → coordinate l a b ≡ coordinate l t d
+  coordinate-is a b t d B D h e =
       let k = m .coord in
-      nearest-same (exactly l (f .num) (f .den)) (exactly l t d) (f .den) d (F .some) D
-      (ap (λ (z : ℤ). z *ℤ pos d) (exactly-is (f .num) (f .den) (up-to-one f t d D F h))
-      ∙ diff-times (spot p q (f .num) (f .den)) (k * f .den) d
-      ∙ ap (λ (n : ℕ). pos n -ℤ pos (k * f .den * d)) (same-spot p q t d (f .num) (f .den) (F .same))
-      ∙ ap (λ (n : ℕ). pos (spot p q t d * f .den) -ℤ pos n) (mul-assoc k (f .den) d ∙ ap (λ (n : ℕ). k * n) (mul-comm (f .den) d) ∙ sym (mul-assoc k d (f .den)))
-      ∙ sym (ap (λ (z : ℤ). z *ℤ pos (f .den)) (exactly-is t d h) ∙ diff-times (spot p q t d) (k * d) (f .den)))
+      nearest-same (exactly l a b) (exactly l t d) b d B D
+      (ap (λ (z : ℤ). z *ℤ pos d) (exactly-is a b (up-to-one a b t d D e h))
+      ∙ diff-times (spot p q a b) (k * b) d
+      ∙ ap (λ (n : ℕ). pos n -ℤ pos (k * b * d)) (same-spot p q t d a b e)
+      ∙ ap (λ (n : ℕ). pos (spot p q t d * b) -ℤ pos n) (mul-assoc k b d ∙ ap (λ (n : ℕ). k * n) (mul-comm b d) ∙ sym (mul-assoc k d b))
+      ∙ sym (ap (λ (z : ℤ). z *ℤ pos b) (exactly-is t d h) ∙ diff-times (spot p q t d) (k * d) b))
 
-  pub coordinate-plain : (f : Fraction) (t d : ℕ) → 0 < d → t ≤ d → Is f t d → ZeroPlain (coordinate l t d)
-  coordinate-plain f t d D h F = subst ZeroPlain (coordinate-is f t d D h F) (nearest-plain (exactly l (f .num) (f .den)) (f .den) (F .some) (F .small .1))
+  pub coordinate-plain : (f : Fraction) (t d : ℕ) → t ≤ d → Is f t d → ZeroPlain (coordinate l t d)
+  coordinate-plain f t d h F =
+      subst ZeroPlain (coordinate-is (f .num) (f .den) t d (F .some) (F .d-pos) h (F .same)) (nearest-plain (exactly l (f .num) (f .den)) (f .den) (F .some) (F .small .1))
 
   module _ (a : Axis) (ok : AxisOk m a) (n t d : ℕ) (D : 0 < d) (i : In (stretchOf l (slab a)) n t d) where
     abbrev bottom : ℕ

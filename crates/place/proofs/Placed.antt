@@ -12,6 +12,7 @@ use Rattle.axis.specs.Codes.{Limits}
 use Rattle.ray.specs.declared.Grid.{Grid}
 use Rattle.ray.specs.declared.Ray.{Ray}
 use Rattle.ray.specs.Length.{dOf, volume, array, start, stop}
+use Rattle.ray.proofs.Capped.{d-pos}
 use Rattle.place.specs.declared.Place.{Place}
 use Rattle.place.specs.declared.Place.the-variants as place
 use Rattle.place.specs.declared.fraction.Fraction.{Fraction}
@@ -20,7 +21,6 @@ use Rattle.place.specs.declared.crossing.Crossing.the-variants.{Refused,
 use Rattle.place.specs.Deciding.{crossingOf}
 use Rattle.place.specs.Answers.{placeOf}
 use Rattle.place.proofs.Deciding.{Is, below-is, up-to-one}
-use Rattle.place.proofs.Sizes.{d-some}
 use Rattle.place.proofs.Shown.{Shown, shown}
 use Rattle.place.proofs.Found.{Hit, hit, answer-is}
 
@@ -29,28 +29,25 @@ placed (Refused c) = place.Refused c
 placed Miss = place.Miss
 placed (Through e l) = place.Hit (round binary64 false (e .num) (e .den)) (round binary64 false (l .num) (l .den))
 
-nearest-is : (f : Fraction) (n d : ℕ) → 0 < d → Is f n d → round binary64 false (f .num) (f .den) ≡ round binary64 false n d
-nearest-is f n d D F = round-same binary64 false (f .num) (f .den) n d (F .some) D (F .same)
+nearest-is : (f : Fraction) (n d : ℕ) → Is f n d → round binary64 false (f .num) (f .den) ≡ round binary64 false n d
+nearest-is f n d F = round-same binary64 false (f .num) (f .den) n d (F .some) (F .d-pos) (F .same)
 
 module _ (m : Limits) (g : Grid) (r : Ray) (room : m .coord + m .coord ≤ 2 ^ 20) where
   abbrev hitting : Place
   hitting = place.Hit (round binary64 false (start r (array (volume g))) (dOf r)) (round binary64 false (stop r (array (volume g))) (dOf r))
 
   module _ (e l : Fraction) (H : Hit m g r room e l) where
-    some : 0 < dOf r
-    some = d-some m room g r (H .ok)
-
     rounded : placed (Through e l) ≡ hitting
-    rounded = rw (nearest-is e _ (dOf r) some (H .enters), nearest-is l _ (dOf r) some (H .leaves))
+    rounded = rw (nearest-is e _ (dOf r) (H .enters), nearest-is l _ (dOf r) (H .leaves))
 
     pub leave-low : l .num ≤ l .den
-    leave-low = up-to-one l _ (dOf r) some (H .leaves) (min-le-left _ _)
+    leave-low = up-to-one (l .num) (l .den) _ (dOf r) (d-pos r) (H .leaves .same) (min-le-left _ _)
 
     pub enter-low : e .num ≤ e .den
-    enter-low = up-to-one e _ (dOf r) some (H .enters) (le-trans (le-of-lt (H .strict)) (min-le-left _ _))
+    enter-low = up-to-one (e .num) (e .den) _ (dOf r) (d-pos r) (H .enters .same) (le-trans (le-of-lt (H .strict)) (min-le-left _ _))
 
     apart : e .num * l .den < l .num * e .den
-    apart = ltb-true _ _ (below-is e l _ _ (dOf r) some (H .enters) (H .leaves) ∙ lt-ltb _ _ (H .strict))
+    apart = ltb-true _ _ (below-is e l _ _ (dOf r) (H .enters) (H .leaves) ∙ lt-ltb _ _ (H .strict))
 
   pub place-is : placed (crossingOf m g r) ≡ placeOf m g r
   unfolding placeOf

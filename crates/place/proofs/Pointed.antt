@@ -1,6 +1,6 @@
 -- The point call's answer from what was found, and what RULES 8 says of every hit's two points, for every grid and ray that the
 -- call accepts, at any limits up to half of 2 ^ 20. Assumes nothing.
-use Prim.Native.Nat.{ℕ, _+_, _^_, _≤_, _<_, zero-le}
+use Prim.Native.Nat.{ℕ, _+_, _^_, _≤_, zero-le}
 use mathlib.Core.Path.{_≡_, refl, sym, _∙_, subst}
 use mathlib.Core.Bool.{true}
 use native.Mathlib.Nat.{min-le-left, min-le-right, le-max-left, le-max-right, le-refl, le-trans, lt-of-lt-of-le, lt-of-le-of-lt, le-of-eq, le-of-lt}
@@ -24,9 +24,9 @@ use Rattle.place.specs.declared.crossing.Crossing.the-variants.{Refused,
 use Rattle.place.specs.Deciding.{stretchOf, crossingOf}
 use Rattle.place.specs.Answers.{coordinate, pointAt, nowhere, pointsOf}
 use Rattle.ray.proofs.Accepted.{axisOf}
+use Rattle.ray.proofs.Capped.{d-pos}
 use Rattle.place.proofs.Accepted.{array-is, code-ok}
 use Rattle.place.proofs.Deciding.{Is, enters-is, leaves-is, share}
-use Rattle.place.proofs.Sizes.{d-some}
 use Rattle.place.proofs.Signed.{exact}
 use Rattle.place.proofs.Shown.{ZeroPlain}
 use Rattle.place.proofs.Within.{In}
@@ -78,9 +78,6 @@ module _ (m : Limits) (g : Grid) (r : Ray) (room : m .coord + m .coord ≤ 2 ^ 2
   box = array (volume g)
 
   module _ (e l : Fraction) (H : Hit m g r room e l) where
-    some : 0 < dOf r
-    some = d-some m room g r (H .ok)
-
     -- any place from start to stop, told by a small fraction
     module _ (f : Fraction) (t : ℕ) (F : Is f t (dOf r)) (after : start r box ≤ t) (until : t ≤ stop r box) where
       most : t ≤ dOf r
@@ -102,20 +99,20 @@ module _ (m : Limits) (g : Grid) (r : Ray) (room : m .coord + m .coord ≤ 2 ^ 2
       in-planes : (s : Side) → InPlanes s (box s)
       in-planes s =
           subst (InPlanes s) (sym (array-is g s))
-          (planes-hold m (leg r s) (H .ok .from s) (H .ok .to s) (axisOf g s) (code-ok m (axisOf g s) (H .ok .axis s)) (rest r s) t (dOf r) some
+          (planes-hold m (leg r s) (H .ok .from s) (H .ok .to s) (axisOf g s) (code-ok m (axisOf g s) (H .ok .axis s)) (rest r s) t (dOf r) (d-pos r)
           (subst (λ (b : Slab). In (stretchOf (leg r s) b) (rest r s) t (dOf r)) (array-is g s) (in-box s)))
 
       drawn : Drawn g r t (pointAt r t (dOf r))
       drawn = record {
         low = λ s. rw (by-axes r t (dOf r) s) (in-planes s .0);
         high = λ s. rw (by-axes r t (dOf r) s) (in-planes s .1);
-        whole = λ s c h. by-axes r t (dOf r) s ∙ exact (exactly (leg r s) t (dOf r)) c (dOf r) some h;
-        plain = λ s. rw (by-axes r t (dOf r) s) (coordinate-plain m (leg r s) (H .ok .from s) (H .ok .to s) f t (dOf r) some most F);
+        whole = λ s c h. by-axes r t (dOf r) s ∙ exact (exactly (leg r s) t (dOf r)) c (dOf r) (d-pos r) h;
+        plain = λ s. rw (by-axes r t (dOf r) s) (coordinate-plain m (leg r s) (H .ok .from s) (H .ok .to s) f t (dOf r) most F);
       }
 
       small-point : pointAt r (f .num) (f .den) ≡ pointAt r t (dOf r)
       small-point =
-          let at : (s : Side) → coordinate (leg r s) (f .num) (f .den) ≡ coordinate (leg r s) t (dOf r) = λ s. coordinate-is m (leg r s) (H .ok .from s) (H .ok .to s) f t (dOf r) some most F in
+          let at : (s : Side) → coordinate (leg r s) (f .num) (f .den) ≡ coordinate (leg r s) t (dOf r) = λ s. coordinate-is m (leg r s) (H .ok .from s) (H .ok .to s) (f .num) (f .den) t (dOf r) (F .some) (F .d-pos) most (F .same) in
           rw (at X, at Y, at Z)
 
     enter-point : pointAt r (e .num) (e .den) ≡ pointAt r (start r box) (dOf r)

@@ -1,9 +1,8 @@
 -- An accepted axis against an accepted leg: told from the lower limit up its numbers have no sign, and they are small. Assumes nothing.
-use Prim.Native.Nat.{ℕ, _+_, _*_, _^_, _≤_, _<_}
+use Prim.Native.Nat.{ℕ, _+_, _*_, _^_, _≤_}
 use mathlib.Core.Path.{_≡_, sym, _∙_, subst}
 use mathlib.Core.Bool.{true}
 use lib.IntN.{pos}
-use native.Mathlib.Nat.{mul-pos}
 use native.Mathlib.Omega.{arith}
 use native.Mathlib.Decide.{decLt}
 use Rattle.axis.specs.declared.Axis.{Axis}
@@ -13,7 +12,7 @@ use Rattle.axis.proofs.Shift.{shift, Low, shift-add, low-add}
 use Rattle.axis.proofs.Bounds.{inside-low, inside-most, AxisOk}
 use Rattle.ray.specs.declared.Grid.{Grid}
 use Rattle.ray.specs.declared.Ray.{Ray}
-use Rattle.ray.specs.Length.{Side, X, Y, Z, leg, dOf, volume, array}
+use Rattle.ray.specs.Length.{Side, leg, volume, array}
 use Rattle.place.specs.Deciding.{stretchOf}
 use Rattle.ray.proofs.Accepted.{axisOf}
 use Rattle.place.proofs.Accepted.{slab, array-is, code-ok, Accepted}
@@ -65,6 +64,3 @@ module _ (m : Limits) (a : Axis) (l : Leg) (ok : AxisOk m a) (from : inside m (l
 module _ (m : Limits) (room : m .coord + m .coord ≤ 2 ^ 20) (g : Grid) (r : Ray) (ok : Accepted m g r) where
   pub all-sized : (s : Side) → Sized (stretchOf (leg r s) (array (volume g) s))
   all-sized s = subst (λ (b : Slab). Sized (stretchOf (leg r s) b)) (sym (array-is g s)) (sized m (axisOf g s) (leg r s) (code-ok m (axisOf g s) (ok .axis s)) (ok .from s) (ok .to s) room)
-
-  pub d-some : 0 < dOf r
-  d-some = mul-pos (all-sized X .some) (mul-pos (all-sized Y .some) (all-sized Z .some))

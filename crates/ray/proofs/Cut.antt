@@ -1,6 +1,6 @@
 -- Demand 3, a ray cut at a point of whole coordinates: in each voxel and in the sum, its share is its pieces' shares, each weighted
 -- by the piece's length over the ray's. Fractions stand as whole numbers, multiplied across. Assumes nothing.
-use Prim.Native.Nat.{ℕ, _+_, _*_}
+use Prim.Native.Nat.{ℕ, _+_, _*_, _<_}
 use mathlib.Core.Path.{_≡_, sym, ap, ap₂, _∙_}
 use mathlib.Core.Bool.{true}
 use mathlib.Core.List.{List}
@@ -13,16 +13,22 @@ use Rattle.ray.specs.declared.End.{End}
 use Rattle.ray.specs.declared.Ray.{Ray}
 use Rattle.ray.specs.Length.{Side, leg, dOf, rest, Volume, count, voxel, partOf, total, sumOf}
 use Rattle.ray.proofs.Total.{total-same, total-add, total-times}
-use Rattle.ray.proofs.Capped.{part, part-voxel, d-side}
+use Rattle.ray.proofs.Way.{factor-pos}
+use Rattle.ray.proofs.Capped.{part, part-voxel, d-side, d-pos}
 use Rattle.ray.proofs.CutBox.{Between, near, far, upTo, onFrom, factors, share, moving-near, moving-far, parts}
 
 -- the difference of a ray's end coordinates, its length on that axis
 abbrev pub difference : Ray → Side → ℕ
 difference r s = natAbs (leg r s .q -ℤ leg r s .p)
 
--- The mean of two pieces, of lengths f₁ and f₂ on an axis on which the whole has f: x/D = f₁/f · x₁/D₁ + f₂/f · x₂/D₂, multiplied across.
-abbrev pub MeanOf : (f f₁ f₂ d d₁ d₂ x x₁ x₂ : ℕ) → Type 0
-MeanOf f f₁ f₂ d d₁ d₂ x x₁ x₂ = x * f * (d₁ * d₂) ≡ (f₁ * x₁ * d₂ + f₂ * x₂ * d₁) * d
+-- The mean of two pieces, of lengths f₁ and f₂ on an axis on which the whole has f: x/d = f₁/f · x₁/d₁ + f₂/f · x₂/d₂. Every denominator
+-- is above zero, so this is the equation multiplied across.
+pub record MeanOf (f f₁ f₂ d d₁ d₂ x x₁ x₂ : ℕ) : Type 0 where
+  pub f-pos : 0 < f
+  pub d-pos : 0 < d
+  pub d₁-pos : 0 < d₁
+  pub d₂-pos : 0 < d₂
+  pub is : x * f * (d₁ * d₂) ≡ (f₁ * x₁ * d₂ + f₂ * x₂ * d₁) * d
 
 -- So P to Q of P to M and M to Q, on an axis s, where x is a number that each ray has, as its part in a voxel.
 abbrev pub Mean : Ray → End → Side → (Ray → ℕ) → Type 0
@@ -50,9 +56,14 @@ shown : (f dn df a b d x y z : ℕ) → f * (dn * df) * x ≡ a * df * d * y + b
 shown f dn df a b d x y z h =
     mul-assoc x f (dn * df) ∙ mul-comm x (f * (dn * df)) ∙ h ∙ simp (mul-add, mul-assoc, mul-comm, mul-left-comm)
 
-mean : (r : Ray) (m : End) (s : Side) (x : Ray → ℕ) → Spread r m s x → Mean r m s x
-mean r m s x =
-    shown (difference r s) (dOf (near r m)) (dOf (far r m)) (difference (near r m) s) (difference (far r m) s) (dOf r) (x r) (x (near r m)) (x (far r m))
+mean : (r : Ray) (m : End) (s : Side) (x : Ray → ℕ) → moving (leg r s) ≡ true → Spread r m s x → Mean r m s x
+mean r m s x moves h = record {
+  f-pos = rw (← moving-factor r s moves) (factor-pos (leg r s));
+  d-pos = d-pos r;
+  d₁-pos = d-pos (near r m);
+  d₂-pos = d-pos (far r m);
+  is = shown (difference r s) (dOf (near r m)) (dOf (far r m)) (difference (near r m) s) (difference (far r m) s) (dOf r) (x r) (x (near r m)) (x (far r m)) h;
+}
 
 left : (a b f a′ b′ f′ : ℕ) → a + b ≡ f → a′ + b′ ≡ f′ → a * f′ ≡ a′ * f → b * f′ ≡ b′ * f
 left a b f a′ b′ f′ h k e =
@@ -96,13 +107,13 @@ module _ (r : Ray) (m : End) (between : Between r m) where
 
       -- a voxel's part over D
       pub voxel-cut : (w : ℕ) → Mean r m s (λ t. partOf v t w)
-      voxel-cut w = mean r m s (λ t. partOf v t w) (voxel-spread w)
+      voxel-cut w = mean r m s (λ t. partOf v t w) moves (voxel-spread w)
 
       -- the weighted sum over D
       pub sum-cut : (densities : List ℕ) → Mean r m s (λ t. sumOf v t densities)
       unfolding sumOf
       sum-cut densities =
-          mean r m s (λ t. sumOf v t densities)
+          mean r m s (λ t. sumOf v t densities) moves
           (linear (difference r s * (dOf (near r m) * dOf (far r m))) (difference (near r m) s * dOf (far r m) * dOf r) (difference (far r m) s * dOf (near r m) * dOf r)
           (λ w. partOf v r w * getD densities w 0)
           (λ w. partOf v (near r m) w * getD densities w 0)

@@ -231,10 +231,10 @@ module _ (d : ℕ) where
       numerator a (pos c) e = natural-minus (a *ℤ pos (y .den)) (c * x .den) ∙ ap (λ (t : ℕ). t - c * x .den) (natural-mul a (y .den))
       numerator a (negsuc c) e = absurd (pos-ne-negsuc 0 c (sym e))
 
-  at : {x : Fraction} {n : ℕ} → Is x n → natural (x .num) * d ≡ n * x .den
+  pub at : {x : Fraction} {n : ℕ} → Is x n → natural (x .num) * d ≡ n * x .den
   at {x} p = sym (natural-mul (x .num) d) ∙ ap natural (p .is)
 
-  least0 : {x : Fraction} {n : ℕ} → Is x n → Least0 x
+  pub least0 : {x : Fraction} {n : ℕ} → Is x n → Least0 x
   least0 {x} {n} p = go (x .num) (p .is)
     where
       not-below-0 : (k m : ℕ) → 0 < k → negℤ (pos k) ≡ pos m → ⊥

@@ -19,7 +19,7 @@ module _ (v : Volume) (r : Ray) where
   misses-are = ap (λ (t : Bool). t || not (holds r (array v))) (sym (le-at (dOf r) (αmax-at r (array v)) (αmin-at r (array v)) (αmin-least0 r (array v))))
 
   module _ (hit : misses v r ≡ false) where
-    ahead : start r (array v) < stop r (array v)
+    pub ahead : start r (array v) < stop r (array v)
     unfolding misses
     ahead = leb-false (stop r (array v)) (start r (array v)) (or-left (leb (stop r (array v)) (start r (array v))) (not (holds r (array v))) hit)
 

@@ -48,7 +48,7 @@ returns : tie.Need-returns
 returns c =
     let a = c .before .before .before .before .before .before .before .before .before .before .before .before .args in
     let t = c .before .before .before .before .trace .ensures in
-    told (tail-answers (a .g) (a .r) (a .densities .now) (a .voxels .now) (a .parts .now) (a .filled) (c .before .before .before .before .before .before .before .before .if1 .taken) (c .before .before .before .before .before .before .before .if2 .taken) _ _ _ (t .0) (t .1 .0) (t .1 .1))
+    told (tail-answers (a .g) (a .r) (a .voxels .now) (a .parts .now) (a .filled) (c .before .before .before .before .before .before .before .before .if1 .taken) (c .before .before .before .before .before .before .before .if2 .taken) (a .densities .now) _ _ _ (t .0) (t .1 .0) (t .1 .1))
 
 code-but-room-requires : tie.Need-code-but-room-requires
 code-but-room-requires c κs = search needs
