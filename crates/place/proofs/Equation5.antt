@@ -26,7 +26,7 @@ use Rattle.place.proofs.OnLeg.{coordinate-is}
 abbrev pub nearestTo : Fraction → Float
 nearestTo x = nearest (x .num) (x .den)
 
--- P + α(Q - P) on one axis (000, equation 2)
+-- P + α(Q - P) on one axis, equation (2)
 abbrev pub along : Leg → Fraction → Fraction
 along l α = record { num = l .p *ℤ pos (α .den) +ℤ α .num *ℤ (l .q -ℤ l .p); den = α .den }
 
