@@ -33,8 +33,10 @@ ANY = re.compile(r"(?<!\w)(?:CRATE|NAME|FILE|F)(?!\w)|…")  # in a path
 COMMANDS = ("rt", "python3", "gcc", "cargo", "./trace", ".ci/run")
 PLAIN = {"requires", "ensures", "CRATE", "NAME", "bool", "u8", "u16", "u32", "u64", "usize", "i32", "i64", "f64", *COMMANDS}
 KIT = ("std", "io", "libc", "os", "check", "bytes")
-CITED = re.compile(r"\bRULES((?:(?:\s|--|//|#)+(?:and )?\d+(?:\.\d+)?)+)")
-SCOPE = re.compile(r"\bdocument(?:\s|--|//|#)+0" + "1", re.I)  # the rules are told in docs/RULES.md, so that is what is cited
+NUMBER = r"\d+(?:\.\d+)?"
+GAP = r"(?:\s|--|//|#)+"  # a comment's next line, too
+CITED = re.compile(rf"\bRULES{GAP}({NUMBER}(?:{GAP}and{GAP}{NUMBER})*)")
+SCOPE = re.compile(rf"\bdocument{GAP}0" + r"1\b", re.I)  # the rules are told in docs/RULES.md, so that is what is cited
 
 
 class Span(NamedTuple):
@@ -227,9 +229,9 @@ def edits(source: Source, promises: str) -> Iterator[Found]:
 
 def cited(text: str, rules: str) -> Iterator[Found]:
     """Each section that a file cites is a heading of the rules, and no file cites what they stand for."""
-    headings = set(re.findall(r"^#{2,3} (\d+(?:\.\d+)?)\.? ", rules, re.M))
+    headings = set(re.findall(rf"^##+ ({NUMBER})\.? ", rules, re.M))
     for cite in CITED.finditer(text):
-        for number in re.findall(r"\d+(?:\.\d+)?", cite[1]):
+        for number in re.findall(NUMBER, cite[1]):
             yield Found(number in headings, cite.start(), f"RULES {number}", f"is no section of {RULES}")
     for cite in SCOPE.finditer(text):
         yield Found(False, cite.start(), cite[0], f"stands there, where {RULES} is to be cited")
@@ -249,7 +251,7 @@ def silent(part: Callable[[str], Iterable[Found]], text: str, change: Callable[[
 
 
 def altered(text: str, name: str) -> tuple[str, str]:
-    return text.replace(f"`{name}", f"`x{name}"), f"x{name}"
+    return text.replace(f"`{name}", f"`zz{name}"), f"zz{name}"
 
 
 def taken_out(text: str, name: str) -> tuple[str, str]:
@@ -267,9 +269,10 @@ def self_test(source: Source, tally: Tally, promises: str, decisions: str) -> No
     }.items():
         tally.check(not missed, f"{told}, and not told: {missed}")
     old = "document 0" + "1"
-    sample = f"RULES {2} and {3.4}, RULES\n-- {5}. By {old}"
-    told_of = [found.name for found in cited(sample, "## 2. Two\n### 3.4 Four\n") if not found.good]
-    tally.check(told_of == [f"RULES {5}", old], f"of {sample!r} is told {told_of}")
+    sample = f"RULES {2} and {3.4}, RULES\n-- {5}. By {old} [a file](none.md)"
+    told_of = [*cited(sample, "## 2. Two\n### 3.4 Four\n"), *linked(source, PROMISES, sample)]
+    wrong = [found.name for found in told_of if not found.good]
+    tally.check(wrong == [f"RULES {5}", old, "none.md"], f"of {sample!r} is told {wrong}")
 
 
 def main() -> None:

@@ -119,18 +119,6 @@ def differ(number: int, case: Case, stated: bytes, found: Ended) -> str:
     return f"{case.kind} by {case.feed}, kept in {kept.relative_to(machine.ROOT)}: {told}"
 
 
-def broken_streams(tally: Tally, command: list[str]) -> None:
-    """A failed read or write is told, and no answer pretends that all was read or written."""
-    for job in (b"", damage.large(Random(1))):  # written at the end; written more than once
-        with open("/dev/full", "wb") as full:
-            said = subprocess.run(command, input=job, stdout=full, stderr=subprocess.PIPE, timeout=LONGEST).stderr
-        tally.check(said.count(b"\n") == 1, f"a failed write is told once and ends a job of {len(job)} bytes; told: {said[:200]!r}")
-    folder = os.open("/", os.O_RDONLY)
-    ended = subprocess.run(command, stdin=folder, capture_output=True, timeout=LONGEST)
-    os.close(folder)
-    tally.check(ended.stderr != b"" and ended.stdout == b"", "a failed read is told on standard error, and not as an end")
-
-
 def main() -> None:
     asked = machine.asked(__doc__, program=machine.TARGET / "bin" / "trace")
     command = machine.words(asked.program)
@@ -143,7 +131,6 @@ def main() -> None:
             tally.codes.update(met(case.job, stated.splitlines()))
             good = found == Ended(stated, b"", 0)
             tally.check(good, "" if good else differ(number, case, stated, found))
-    broken_streams(tally, command)
     tally.table(ANSWERS, LEAST)
     tally.close()
 

@@ -80,7 +80,7 @@ class Source:
 
     @cache
     def text(self, name: str) -> str:
-        return (self.root / name).read_text(encoding="utf-8")
+        return (self.root / name).read_text(encoding="utf-8", errors="replace")
 
     def matching(self, *patterns: str) -> list[str]:
         return [name for name in self.files if any(fnmatchcase(name, one) for one in patterns)]
