@@ -3,6 +3,7 @@
 ghost use Rattle.ilvoresta.specs.Entry.{gridOf, rayOf};
 ghost use Rattle.outside.specs.Doors.{Appended, Pointed};
 
+pub mod limits;
 mod put;
 
 use crate::put::code_in;
