@@ -1,4 +1,4 @@
-"""Random calls of the C entry points: accepted ones, and ones with something to refuse."""
+"""Random calls: accepted ones, and ones with something to refuse."""
 from __future__ import annotations
 
 from dataclasses import replace
@@ -11,10 +11,14 @@ from lending import Call, Formula
 from oracle import COORD_MAX, COUNT_MAX, SPACING_MAX, Axis, Grid, Lent, Ray
 from selftest import BENCH, RAYS
 
-TRACE_CODES = [1, 2, 3, 4, 5, 6, 7, 8, 17]
-PLACE_CODES = [1, 2, 3, 5, 6, 17]
+CODES = {
+    "trace": [1, 2, 3, 4, 5, 6, 7, 8, 17],
+    "place": [1, 2, 3, 5, 6, 17],
+    "append": [1, 2, 3, 4, 5, 6, 7, 8],
+    "points": [1, 2, 3, 5, 6],
+}
 
-U32_MAX, I32_MIN, I32_MAX = 2**32 - 1, -(2**31), 2**31 - 1
+U32_MAX, I32_MIN, I32_MAX, USIZE_MAX = 2**32 - 1, -(2**31), 2**31 - 1, 2**64 - 1
 
 
 def densities(dice: Random, grid: Grid) -> Formula:
@@ -26,12 +30,20 @@ def densities(dice: Random, grid: Grid) -> Formula:
 def accepted(dice: Random, grid: Grid, ray: Ray, of: Formula) -> Call:
     """A call that no code refuses: lists that fit exactly, or have some or much room to spare."""
     room = len(oracle.geometry(grid, ray)[0]) + dice.choice([0, 0, 1, 2, dice.randint(0, 40)])
-    return Call(False, grid, ray, of, Lent(room, room), dice.random() < 0.5, dice.randrange(256))
+    return Call("trace", grid, ray, of, Lent(room, room), dice.random() < 0.5, dice.randrange(256))
 
 
-def placed(dice: Random, grid: Grid, ray: Ray) -> Call:
-    lent = Lent(0, 0, oracle.PLACE_PLACES)
-    return Call(True, grid, ray, Formula(0, 0, 0), lent, dice.random() < 0.5, dice.randrange(256))
+def behind(dice: Random, call: Call) -> Call:
+    """A trace as an append: its lists behind places that are filled."""
+    filled = dice.choice([0, 0, 1, 2, dice.randint(0, 40)])
+    lent = Lent(call.lent.voxels + filled, call.lent.parts + filled)
+    return call._replace(kind="append", lent=lent, filled=filled)
+
+
+def drawn(dice: Random, kind: str, grid: Grid, ray: Ray) -> Call:
+    """A place or its points, which need no densities and no lists."""
+    lent = Lent(0, 0, oracle.PLACE_PLACES if kind == "place" else oracle.POINT_PLACES)
+    return Call(kind, grid, ray, Formula(0, 0, 0), lent, dice.random() < 0.5, dice.randrange(256))
 
 
 def with_axis(dice: Random, call: Call, **change: int) -> Call:
@@ -46,10 +58,30 @@ def with_end(dice: Random, call: Call, c: int) -> Call:
     return call._replace(ray=Ray((ends[0], ends[1], ends[2]), (ends[3], ends[4], ends[5])))
 
 
+def with_filled(dice: Random, call: Call) -> Call:
+    """An append behind more places than its lists have, or behind just about all of them."""
+    room = call.lent.voxels
+    nearly = max(0, room - dice.randint(1, 4))
+    return call._replace(filled=dice.choice([room + 1, room + dice.randint(1, 600), USIZE_MAX, room, nearly]))
+
+
+def with_lists(dice: Random, call: Call, code: int) -> Call:
+    """Lists of different length, or too short; lists that are kept have no place more to lend."""
+    lent = call.lent
+    if call.kind == "append" and dice.random() < 0.4:
+        call = with_filled(dice, call)
+        if code == 8:
+            return call
+    if code == 7:
+        lengths = [0, max(0, lent.parts - 1)] + ([] if call.kept else [lent.parts + 1])
+        return call._replace(lent=lent._replace(parts=dice.choice(lengths)))
+    less = max(0, lent.voxels - dice.choice([1, 1, 2, lent.voxels]))
+    return call._replace(lent=Lent(less, less, lent.answer))
+
+
 def spoiled(dice: Random, call: Call, code: int) -> Call:
     """The call with what the code refuses, or what it just does not."""
     far = dice.choice(call.grid)
-    lent = call.lent
     if code == 1:
         return with_axis(dice, call, n=dice.choice([0, COUNT_MAX + 1, U32_MAX, 2**31]))
     if code == 2:
@@ -64,24 +96,36 @@ def spoiled(dice: Random, call: Call, code: int) -> Call:
         return with_end(dice, call, dice.choice([COORD_MAX + 1, -COORD_MAX - 1, I32_MIN, I32_MAX, COORD_MAX, -COORD_MAX]))
     if code == 6:
         return call._replace(ray=Ray(call.ray.p, call.ray.p))
-    if code == 7:
-        return call._replace(lent=lent._replace(parts=dice.choice([0, lent.parts + 1, max(0, lent.parts - 1)])))
-    if code == 8:
-        less = max(0, lent.voxels - dice.choice([1, 1, 2, lent.voxels]))
-        return call._replace(lent=Lent(less, less, lent.answer))
-    return call._replace(lent=lent._replace(answer=dice.choice([0, 1, 5, 7, 3, 12])))
+    if code in (7, 8):
+        return with_lists(dice, call, code)
+    return call._replace(lent=call.lent._replace(answer=dice.choice([0, 1, 5, 7, 3, 12])))
 
 
-def random_calls(dice: Random, many: int) -> Iterator[Call]:
+def of_kind(dice: Random, kind: str) -> Call:
+    """An accepted call."""
+    drawing = kind in ("place", "points")
+    grid = scenes.grid(dice, dice.choice([1, 2, 4, 6, 9, 12] + ([COUNT_MAX] if drawing else [])))
+    ray = scenes.ray(dice, grid)
+    if drawing:
+        return drawn(dice, kind, grid, ray)
+    call = accepted(dice, grid, ray, densities(dice, grid))
+    return behind(dice, call) if kind == "append" else call
+
+
+def random_calls(dice: Random, many: int, kinds: list[str]) -> Iterator[Call]:
     """Half of them accepted, the others with one, two or three things to refuse."""
     for _ in range(many):
-        place = dice.random() < 0.3
-        grid = scenes.grid(dice, dice.choice([1, 2, 4, 6, 9, 12] + ([COUNT_MAX] if place else [])))
-        ray = scenes.ray(dice, grid)
-        call = placed(dice, grid, ray) if place else accepted(dice, grid, ray, densities(dice, grid))
+        call = of_kind(dice, dice.choice(kinds))
         for _ in range(dice.choice([0, 0, 0, 1, 1, 2, 3])):
-            call = spoiled(dice, call, dice.choice(PLACE_CODES if place else TRACE_CODES))
+            call = spoiled(dice, call, dice.choice(CODES[call.kind]))
         yield call
+
+
+def drawing_calls(dice: Random, many: int) -> Iterator[Call]:
+    """The points of a ray, and its place beside them."""
+    for call in random_calls(dice, many, ["points"]):
+        yield call
+        yield drawn(dice, "place", call.grid, call.ray)
 
 
 def large_calls(dice: Random, many: int) -> Iterator[Call]:
@@ -92,7 +136,9 @@ def large_calls(dice: Random, many: int) -> Iterator[Call]:
         of = densities(dice, grid)
         for _ in range(20):
             call = accepted(dice, grid, scenes.ray(dice, grid), of)
-            yield spoiled(dice, call, dice.choice([7, 8, 17])) if dice.random() < 0.2 else call
+            if dice.random() < 0.3:
+                call = behind(dice, call)
+            yield spoiled(dice, call, dice.choice(CODES[call.kind][-3:])) if dice.random() < 0.2 else call
 
 
 def bench_calls(dice: Random) -> Iterator[Call]:
@@ -106,6 +152,10 @@ def bench_calls(dice: Random) -> Iterator[Call]:
         told.append(told[2]._replace(grid=(Axis(n, d, 0), Axis(1, 1, 0), Axis(1, 1, 0)), densities=Formula(n, 9, 9)))
     for c in (COORD_MAX, COORD_MAX + 1):
         told.append(told[0]._replace(ray=Ray((c, 5, 5), (0, 5, 5))))
-    yield from told
     for room in (4, 3):
-        yield told[2]._replace(lent=Lent(room, room))
+        told.append(told[2]._replace(lent=Lent(room, room)))
+    for call in told:
+        yield call
+        yield behind(dice, call)
+        yield drawn(dice, "place", call.grid, call.ray)
+        yield drawn(dice, "points", call.grid, call.ray)

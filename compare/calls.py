@@ -1,35 +1,57 @@
 #!/usr/bin/env python3
-"""Holds the C entry points of the archive to the independent program, with every byte of memory around them.
+"""Holds trace, place, append and points to the independent program, with every byte of memory around them.
 
-    python3 compare/calls.py [--seed SEED] [--archive PATH]
+    python3 compare/calls.py [--seed SEED] [--archive PATH] [--outside PATH]
 
-compare/driver.c makes the calls and hands back all memory that it lent. What that memory must hold is
-worked out here, byte for byte: the answer, and wherever nothing may be written, what was there before.
+compare/driver.c makes the calls: trace and place by the archive that C callers link, append and points, which
+C has no entry for, by the doors of crates/outside. It hands back all memory that it lent. What that memory
+must hold is worked out here, byte for byte: the answer, and wherever nothing may be written, what was there
+before.
 """
 from __future__ import annotations
 
 import shutil
 import subprocess
 from concurrent.futures import ProcessPoolExecutor
-from fractions import Fraction
 from pathlib import Path
 from random import Random
+from typing import NamedTuple
 
 import asking
+import chaining
+import families
 import machine
-import oracle
-import scenes
-from lending import Call, Listed, listed
-from oracle import Ray
+from differing import differences
+from lending import Call
+from stating import stated
 from tally import Tally
 
 LEAST = 20  # times that each answer is to be met
 MARGIN = 64  # bytes on either side of a list
 PROCESSES = 2
 
-ANSWERS = [f"trace {told}" for told in ["hit", "miss", *asking.TRACE_CODES]] + [
-    f"place {told}" for told in ["hit", "miss", *asking.PLACE_CODES]
+ANSWERS = [f"{kind} {told}" for kind, codes in asking.CODES.items() for told in ["hit", "miss", *codes]] + [
+    *(f"append {told}, partly filled" for told in ("hit", "miss", 7, 8)),
+    *(f"append {told}" for told in ("7, overfull", "8, overfull", "8, overfull on a miss")),
 ]
+
+RUNS = {"large": 2, "families": 2, "bench": 1, "random": 10, "appends": 2, "chains": 2, "drawing": 2}
+
+
+class Run(NamedTuple):
+    """Calls of one sort, made by the driver one after the other, with dice of their own."""
+
+    driver: Path
+    sort: str
+    number: int
+    seed: int
+    again: str  # the command that repeats it
+
+    def dice(self) -> Random:
+        return Random(f"{self.seed} {self.sort} {self.number}")
+
+    def told(self, what: str, at: int, call: Call) -> str:
+        return f"{what}\n  call {at} of {self.sort} {self.number}, seed {self.seed}: {call}\n  again: {self.again}"
 
 
 def handed_back(driver: Path, calls: list[Call], margin: int, front: list[str]) -> bytes:
@@ -40,86 +62,70 @@ def handed_back(driver: Path, calls: list[Call], margin: int, front: list[str]) 
     return ended.stdout if ended.returncode == 0 else b""
 
 
-def compared(driver: Path, calls: list[Call], margin: int = MARGIN, front: list[str] | None = None) -> tuple[Tally, list[bytes]]:
+def compared(run: Run, calls: list[Call], margin: int = MARGIN, front: list[str] | None = None) -> tuple[Tally, list[bytes]]:
     """Makes the calls, and holds what came back of each to what is stated."""
-    memory = handed_back(driver, calls, margin, front or [])
-    tally, found, at = Tally(), [], 0
-    for call in calls:
-        told, stated = call.stated(margin)
-        found.append(memory[at : at + len(stated)])
-        at += len(stated)
-        tally.codes[told] += 1
-        tally.check(found[-1] == stated, f"{told} stated, code {found[-1][:4].hex() or 'none'} came: {call}")
-    tally.check(at == len(memory), "the driver handed back as much as was lent")
+    memory = handed_back(run.driver, calls, margin, front or [])
+    tally, found, start = Tally(), [], 0
+    for at, call in enumerate(calls):
+        wanted = stated(call, margin)
+        whole = wanted.memory()
+        came = memory[start : start + len(whole)]
+        start += len(whole)
+        found.append(came)
+        tally.codes[wanted.told] += 1
+        if came == whole:
+            tally.check(True, "")
+        else:
+            tally.check(False, run.told(f"{wanted.told}: " + "; ".join(differences(wanted, came, margin)), at, call))
+    tally.check(start == len(memory), f"the driver handed back as much as was lent\n  again: {run.again}")
     return tally, found
 
 
-def weighed(of: Listed, weight: Fraction) -> list[tuple[int, Fraction]]:
-    return [(voxel, share * weight) for voxel, share in of.entries]
-
-
-def agree(whole: Listed, turned: Listed, first: Listed, second: Listed, cut: Fraction) -> bool:
-    """The ray turned round has its list backwards; cut at M, its pieces' lists join to its own.
-
-    Shares of the pieces are weighed by their lengths, and at the seam two entries of one voxel are one.
-    """
-    one, other = weighed(first, cut), weighed(second, 1 - cut)
-    if one and other and one[-1][0] == other[0][0]:
-        voxel, share = one.pop()
-        other[0] = (voxel, share + other[0][1])
-    return (
-        turned.entries == whole.entries[::-1]
-        and (turned.mean, turned.crossed) == (whole.mean, whole.crossed)
-        and one + other == whole.entries
-        and whole.mean == first.mean * cut + second.mean * (1 - cut)
-    )
-
-
-def families(driver: Path, dice: Random, many: int) -> Tally:
-    """Rays beside themselves turned round and cut, as a technician would hold one against the other."""
-    calls, cuts = [], []
-    for _ in range(many):
-        grid = scenes.grid(dice, dice.choice([2, 4, 7, 11]))
-        p, m, q = scenes.pieces(dice, grid)
-        of = asking.densities(dice, grid)
-        calls += [asking.accepted(dice, grid, ray, of) for ray in (Ray(p, q), Ray(q, p), Ray(p, m), Ray(m, q))]
-        cuts.append(next(Fraction(m[a] - p[a], q[a] - p[a]) for a in oracle.moving(Ray(p, q))))
-    tally, memory = compared(driver, calls)
+def turned_and_cut(run: Run, many: int) -> Tally:
+    dice = run.dice()
+    told = [families.family(dice) for _ in range(many)]
+    calls = [call for four, _ in told for call in four]
+    tally, memory = compared(run, calls)
     if tally.failed == 0:
-        read = [listed(call, block, MARGIN) for call, block in zip(calls, memory)]
-        for at, cut in enumerate(cuts):
+        read = [families.listed(call, block, MARGIN) for call, block in zip(calls, memory)]
+        for at, (_, cut) in enumerate(told):
             whole, turned, first, second = read[4 * at : 4 * at + 4]
-            tally.check(agree(whole, turned, first, second, cut), f"turned or cut at {cut}: {calls[4 * at]}")
+            good = families.agree(whole, turned, first, second, cut)
+            tally.check(good, run.told(f"turned or cut at {cut}", 4 * at, calls[4 * at]))
     return tally
 
 
-def task(driver: Path, kind: str, seed: str) -> Tally:
-    dice = Random(seed)
-    if kind == "families":
-        return families(driver, dice, 800)
-    if kind == "bench":
-        return compared(driver, list(asking.bench_calls(dice)))[0]
-    if kind == "large":
-        return compared(driver, list(asking.large_calls(dice, 12)))[0]
-    if kind == "valgrind":
+def made(run: Run) -> Tally:
+    dice = run.dice()
+    if run.sort == "families":
+        return turned_and_cut(run, 800)
+    if run.sort == "valgrind":
         quiet = ["valgrind", "-q", "--error-exitcode=9"]
-        return compared(driver, list(asking.random_calls(dice, 300)), margin=0, front=quiet)[0]
-    return compared(driver, list(asking.random_calls(dice, 2500)))[0]
+        return compared(run, list(asking.random_calls(dice, 400, list(asking.CODES))), margin=0, front=quiet)[0]
+    calls = {
+        "bench": lambda: asking.bench_calls(dice),
+        "large": lambda: asking.large_calls(dice, 12),
+        "random": lambda: asking.random_calls(dice, 2500, ["trace"] * 7 + ["place"] * 3),
+        "appends": lambda: asking.random_calls(dice, 2500, ["append"]),
+        "chains": lambda: chaining.chains(dice, 500),
+        "drawing": lambda: asking.drawing_calls(dice, 2500),
+    }
+    return compared(run, list(calls[run.sort]()))[0]
 
 
 def main() -> None:
-    asked = machine.asked(__doc__, archive=machine.TARGET / "staticlib" / "libilvoresta.a")
+    built = machine.TARGET / "staticlib"
+    asked = machine.asked(__doc__, archive=built / "libilvoresta.a", outside=built / "liboutside.a")
     driver = machine.room() / "driver"
-    subprocess.run([machine.X86, "cc", driver, machine.HERE / "driver.c", asked.archive], check=True)
-    kinds = ["large"] * 2 + ["families"] * 2 + ["bench"] + ["random"] * 10
+    subprocess.run([machine.X86, "cc", driver, machine.HERE / "driver.c", asked.archive, asked.outside], check=True)
+    runs = [(sort, number) for sort, many in RUNS.items() for number in range(many)]
     if shutil.which("valgrind") and machine.words(driver) == [str(driver)]:
-        kinds.insert(0, "valgrind")
+        runs.insert(0, ("valgrind", 0))
     else:
         print("calls: no run under valgrind: it is not here, or the driver is not this machine's own program")
     tally = Tally()
     with ProcessPoolExecutor(PROCESSES) as pool:
-        begun = [pool.submit(task, driver, kind, f"{asked.seed} {kind} {at}") for at, kind in enumerate(kinds)]
-        for one in begun:
+        for one in [pool.submit(made, Run(driver, sort, number, asked.seed, asked.again)) for sort, number in runs]:
             tally.add(one.result())
     print(f"calls: seed {asked.seed}, {sum(tally.codes.values())} calls")
     tally.table(ANSWERS, LEAST)

@@ -11,9 +11,8 @@ import oracle
 from tally import Tally
 
 HEADER = machine.ROOT / "include" / "ilvoresta.h"
-AXIS = machine.ROOT / "crates" / "axis" / "src" / "lib.rt"
 
-# RULES 1, 6 and 5: the limits, the codes, and the order of the numbers
+# the limits (RULES 1), the order of a trace's answer (5), the codes (6), and the lists of the C entry points (9)
 STATED = {
     "COUNT_MAX": oracle.COUNT_MAX,
     "SPACING_MAX": oracle.SPACING_MAX,
@@ -41,14 +40,23 @@ STATED = {
 }
 
 
+def limits() -> dict[str, int]:
+    """What the proved code has for limits, told by the code itself."""
+    program = machine.room() / "limits"
+    archive = machine.TARGET / "staticlib" / "liboutside.a"
+    subprocess.run([machine.X86, "cc", program, machine.HERE / "limits.c", archive], check=True)
+    told = subprocess.run(machine.words(program), stdout=subprocess.PIPE, check=True, text=True).stdout
+    return {name: int(value) for name, value in map(str.split, told.splitlines())}
+
+
 def main() -> None:
     tally = Tally()
     macros = {name: int(value) for name, value in re.findall(r"^#define ILVORESTA_(\w+) (\d+)\b", HEADER.read_text(), re.M)}
-    constants = {name: int(value) for name, value in re.findall(r"\bpub const (\w+): u32 = (\d+);", AXIS.read_text())}
+    constants = limits()
     for name, value in STATED.items():
         tally.check(macros.get(name) == value, f"ILVORESTA_{name} is {macros.get(name)} in the header, {value} by the rules")
     tally.check(macros.keys() == STATED.keys(), f"macros beyond or short of those stated: {macros.keys() ^ STATED.keys()}")
-    tally.check(len(constants) == 3, f"the axis description has three limits, and these were found: {constants}")
+    tally.check(len(constants) == 3, f"the proved code has three limits, and these were told: {constants}")
     for name, value in constants.items():
         tally.check(macros.get(name) == value, f"Axis::{name} is {value} in the proved code, {macros.get(name)} in the header")
     plus = shutil.which("c++")

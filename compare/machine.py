@@ -2,7 +2,10 @@
 from __future__ import annotations
 
 import argparse
+import os
+import shlex
 import subprocess
+import sys
 from pathlib import Path
 from typing import Optional
 
@@ -28,9 +31,15 @@ def room() -> Path:
 
 
 def asked(about: Optional[str], **paths: Path) -> argparse.Namespace:
-    """The words of a comparison's command: the seed, and where what it runs is to be found."""
+    """The words of a comparison's command: the seed, and where what it runs is to be found; and `again`, which repeats it."""
     words = argparse.ArgumentParser(description=(about or "").split("\n")[0])
     words.add_argument("--seed", type=int, default=1)
     for name, path in paths.items():
         words.add_argument(f"--{name}", type=Path, default=path)
-    return words.parse_args()
+    found = words.parse_args()
+    other = {name: getattr(found, name) for name, path in paths.items() if getattr(found, name) != path}
+    given = [word for name, path in other.items() for word in (f"--{name}", str(path))]
+    program = Path(sys.argv[0]).resolve().relative_to(ROOT)
+    kit = ["X86=kit"] if os.environ.get("X86") == "kit" else []
+    found.again = shlex.join([*kit, "python3", str(program), "--seed", str(found.seed), *given])
+    return found

@@ -24,6 +24,7 @@ JOB_VOXELS_MAX = 4096
 JOB_PLACES = 600
 ANSWER_PLACES = 6
 PLACE_PLACES = 2
+POINT_PLACES = 6
 
 # Up to here, so in every job, each voxel is asked; a larger array would take minutes.
 BRUTE_VOXELS_MAX = JOB_VOXELS_MAX
@@ -232,6 +233,14 @@ def trace(grid: Grid, ray: Ray, densities: Densities, lent: Lent) -> Traced:
     return Traced(17) if lent.answer != ANSWER_PLACES else found
 
 
+def append(grid: Grid, ray: Ray, densities: Densities, lent: Lent, filled: int) -> Traced:
+    """The trace with what lies behind the filled places as its lists.
+
+    Where more are filled than there are, fewer than no places are left, too few for a miss as well.
+    """
+    return trace(grid, ray, densities, Lent(lent.voxels - filled, lent.parts - filled))
+
+
 def place(grid: Grid, ray: Ray, places: int = PLACE_PLACES) -> tuple[int, float, float]:
     """The code, αmin and αmax, both zero on a miss. Python rounds a fraction to the nearest float."""
     code = grid_code(grid) or ends_code(ray) or (17 if places != PLACE_PLACES else 0)
@@ -239,10 +248,12 @@ def place(grid: Grid, ray: Ray, places: int = PLACE_PLACES) -> tuple[int, float,
     return (code, float(inside[0]), float(inside[1])) if inside else (code, 0.0, 0.0)
 
 
-def points(grid: Grid, ray: Ray) -> list[tuple[Fraction, Fraction, Fraction]]:
-    """The entering and the leaving point of accepted numbers, exactly; none on a miss."""
+def points(grid: Grid, ray: Ray) -> tuple[int, list[tuple[Fraction, Fraction, Fraction]]]:
+    """The code, and the entering and the leaving point, exactly; no points on a miss or a refusal."""
+    code = grid_code(grid) or ends_code(ray)
+    inside = window(grid, ray) if code == 0 else None
     x, y, z = ((p, q - p) for p, q in zip(ray.p, ray.q))
-    return [(x[0] + at * x[1], y[0] + at * y[1], z[0] + at * z[1]) for at in window(grid, ray) or ()]
+    return code, [(x[0] + at * x[1], y[0] + at * y[1], z[0] + at * z[1]) for at in inside or ()]
 
 
 # ---- the text job

@@ -1,5 +1,5 @@
 #!/usr/bin/env python3
-"""Holds the independent program to the figures of RULES 11, and its two methods to each other.
+"""Holds the independent program to the rules' own figures, and its two methods to each other; and how a difference is told.
 
     python3 compare/selftest.py [--seed SEED]
 """
@@ -9,9 +9,12 @@ from random import Random
 
 import machine
 import scenes
+from differing import differences
+from lending import Call, Formula
 from oracle import (
-    Axis, Entry, Grid, Lent, Ray, answer, by_planes, by_voxels, crossed, place, points, trace, window,
+    Axis, Entry, Grid, Lent, Ray, answer, append, by_planes, by_voxels, crossed, place, points, trace, window,
 )
+from stating import stated
 from tally import Tally
 
 SCENES = 4000
@@ -47,6 +50,33 @@ def figures(tally: Tally) -> None:
     tally.check((found.entries, found.crossed, found.total) == (diagonal, 21, 2305807824841605120), "corner to corner")
 
 
+def behind(tally: Tally) -> None:
+    """Ray C takes four places, and ray F, a miss, none."""
+    for name, room, filled, code in (("C", 6, 2, 0), ("C", 5, 2, 8), ("C", 2, 3, 8), ("F", 2, 2, 0), ("F", 2, 3, 8)):
+        found = append(BENCH, RAYS[name][0], DENSITIES, Lent(room, room), filled).code
+        tally.check(found == code, f"ray {name} behind {filled} of {room} places: code {found}")
+    found = append(BENCH, RAYS["F"][0], DENSITIES, Lent(2, 3), 9).code
+    tally.check(found == 7, f"lists of different length with more places filled than either has: code {found}")
+
+
+def named(tally: Tally) -> None:
+    """A byte that is not as stated is told by its list and its place: ray C behind two places of eight, margins of 8."""
+    call = Call("append", BENCH, RAYS["C"][0], Formula(6, 2**16, 2**16), Lent(8, 8), False, 0, 2)
+    wanted = stated(call, 8)
+    for at, told in {
+        0: "code: 0 stated, 1 came",
+        4: "byte 8 before voxels: 0 stated, 1 came",
+        4 + 8 + 4 * 3: "voxels[3]: 1 stated, 0 came",
+        4 + 8 + 4 * 8: "byte 1 behind voxels: 200 stated, 201 came",
+        52 + 8 + 8 * 5: "parts[5]: 200 stated, 201 came",
+        132 + 8 + 8 * 5: "answer[5], weighted sum: 2100 stated, 2101 came",
+    }.items():
+        came = bytearray(wanted.memory())
+        came[at] ^= 1
+        found = list(differences(wanted, bytes(came), 8))
+        tally.check(found == [told], f"{told}: {found}")
+
+
 def limits(tally: Tally) -> None:
     def code(n: int = 1, d: int = 1, c: int = 0) -> int:
         return place((Axis(n, d, 0), BENCH[1], BENCH[2]), Ray((c, 0, 0), (1, 1, 1)))[0]
@@ -65,7 +95,7 @@ def consistent(grid: Grid, ray: Ray) -> bool:
     found = answer(grid, ray, [1] * (grid[0].n * grid[1].n * grid[2].n))
     planes, inside = crossed(grid, ray), window(grid, ray)
     most = sum(axis.n for axis in grid) - 2
-    held = all(axis.b <= c <= axis.plane(axis.n) for at in points(grid, ray) for axis, c in zip(grid, at))
+    held = all(axis.b <= c <= axis.plane(axis.n) for at in points(grid, ray)[1] for axis, c in zip(grid, at))
     return (
         by_voxels(grid, ray) == by_planes(grid, ray)
         and found.total == found.span
@@ -80,6 +110,8 @@ def main() -> None:
     tally = Tally()
     figures(tally)
     limits(tally)
+    behind(tally)
+    named(tally)
     for _ in range(SCENES):
         grid = scenes.grid(dice, dice.choice([1, 2, 4, 7]))
         ray = scenes.ray(dice, grid)

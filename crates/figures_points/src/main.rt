@@ -1,5 +1,5 @@
 // The place and the point call run: each line is a ray, what it was answered, and 1 where all eight floats are the ones that
-// stand here, αmin and αmax and then both points. compare/points.py holds these to exact fractions.
+// stand here, αmin and αmax and then both points.
 use axis::Axis;
 use libc::STDOUT_FILENO;
 use place::Mark;

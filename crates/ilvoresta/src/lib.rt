@@ -2,9 +2,9 @@
 // overlap.
 ghost use Rattle.ilvoresta.specs.Entry.{gridOf, rayOf, Traced, Placed};
 
-mod given;
+pub mod given;
 mod placed;
-mod traced;
+pub mod traced;
 
 use crate::given::grid_of;
 use crate::given::ray_of;

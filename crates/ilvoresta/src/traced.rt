@@ -9,7 +9,7 @@ use path::code::code_of;
 use ray::Grid;
 use ray::Ray;
 
-fn put_six(t: Trace, answer: &mut [u64])
+pub fn put_six(t: Trace, answer: &mut [u64])
     requires { ⌜ length (now answer) ≡ 6 ⌝ }
     ensures { λ _. ⌜ now (answer .exit) ≡ (t .entries ∷ t .crossed ∷ t .span ∷ t .d ∷ t .squared ∷ t .sum ∷ []) ⌝ }
 {

@@ -1,0 +1,3 @@
+-- Laws of the comparisons' doors.
+pub mod Stored
+pub mod Once

@@ -1,0 +1,61 @@
+-- `outside_points` meets its contract. Assumes nothing.
+use mathlib.Core.Path.{ap, _∙_}
+use mathlib.Core.List.{[], _∷_}
+use Rattle.place.specs.declared.Points.{Points}
+use Rattle.ilvoresta.proofs.Again.{grid-again, ray-again}
+use Rattle.outside.specs.Doors.{put, markOf, codeIn, floatsOf, Pointed}
+use borrow.Author.Needs.{needs}
+use Rattle.outside.proofs.outside_points.Statement.{statement}
+use Rattle.outside.proofs.outside_points.Tie as tie
+
+grid-of-requires : tie.Need-grid-of-requires
+grid-of-requires c κs = search needs
+
+ray-of-requires : tie.Need-ray-of-requires
+ray-of-requires c κs = search needs
+
+points-requires : tie.Need-points-requires
+points-requires c κs = search needs
+
+put-points-requires : tie.Need-put-points-requires
+put-points-requires c κs = search needs
+
+put-mark-requires : tie.Need-put-mark-requires
+put-mark-requires c κs = search needs
+
+code-in-requires : tie.Need-code-in-requires
+code-in-requires c κs = search needs
+
+same-length : tie.Need-same-length
+same-length c = search needs
+
+same-length-2 : tie.Need-same-length-2
+same-length-2 c = search needs
+
+returns : tie.Need-returns
+returns c =
+    let a = c .before .before .before .before .before .before .before .before .before .before .before .before .before .before .args in
+    let f = c .before .before .before .before .before .before .before .before .before .before .before .before .before .before .fits in
+    let g = c .before .before .before .before .before .before .before .before .before .before .before .grid-of .ensures ∙ grid-again (a .nx) (a .ny) (a .nz) (a .dx) (a .dy) (a .dz) (a .bx) (a .by) (a .bz) (f .bx) (f .by) (f .bz) in
+    let r = c .before .before .before .before .before .before .before .before .before .before .ray-of .ensures ∙ ray-again (a .px) (a .py) (a .pz) (a .qx) (a .qy) (a .qz) (f .px) (f .py) (f .pz) (f .qx) (f .qy) (f .qz) in
+    let e = c .before .before .before .before .before .before .before .before .before .points .ensures in
+    rw (← g, ← r)
+    (record {
+      code-is = c .code-in .ensures ∙ ap (λ (u : Points). codeIn (u .mark)) e;
+      mark-now = c .before .before .before .put-mark .ensures ∙ ap (λ (u : Points). put (markOf (u .mark) ∷ []) (a .mark .now)) e;
+      floats-now = c .before .before .before .before .before .before .before .put-points .ensures ∙ ap (λ (u : Points). put (floatsOf u) (a .floats .now)) e;
+    })
+
+pub outside-points-spec : {M : Type 1} → statement M
+outside-points-spec =
+    tie.close
+    (tie.spec
+    grid-of-requires
+    ray-of-requires
+    points-requires
+    put-points-requires
+    put-mark-requires
+    code-in-requires
+    same-length
+    same-length-2
+    returns)

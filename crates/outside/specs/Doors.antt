@@ -1,0 +1,50 @@
+-- What the comparisons' doors hand over: the whole answers of `append` (RULES 7) and of `points` (RULES 8), as numbers in
+-- lists. They are no entry points of RULES 9: a refusal hands its zeros over too. Definitions only. Assumes nothing.
+use Prim.Native.Nat.{ℕ}
+use mathlib.Core.Path.{_≡_}
+use mathlib.Core.Bool.{cond}
+use mathlib.Core.List.{List, [], _∷_}
+use lib.Dec.{eqb}
+use lib.Ieee.{Float}
+use lib.ListN.{length}
+use Rattle.axis.specs.Codes.{bench}
+use Rattle.ray.specs.declared.Grid.{Grid}
+use Rattle.ray.specs.declared.Ray.{Ray}
+use Rattle.ilvoresta.proofs.Answered.{sixIn}
+use Rattle.path.specs.Answer.{answerOf, voxelsAfter, partsAfter}
+use Rattle.place.specs.declared.Mark.{Mark}
+use Rattle.place.specs.declared.Mark.the-variants.{Refused, Miss, Hit}
+use Rattle.place.specs.declared.Points.{Points}
+use Rattle.place.specs.Answers.{pointsOf}
+
+-- a lent list afterwards: the answer, or, where its length is another, what it held
+abbrev pub put : {A : Type 0} → (new old : List A) → List A
+put new old = cond (eqb (length old) (length new)) new old
+
+-- a mark by a number of its own, apart from its code (RULES 8: a refusal, a miss, a hit)
+abbrev pub markOf : Mark → ℕ
+markOf (Refused c) = 0
+markOf Miss = 1
+markOf Hit = 2
+
+-- the code: 0 where nothing is refused
+abbrev pub codeIn : Mark → ℕ
+codeIn (Refused c) = c
+codeIn Miss = 0
+codeIn Hit = 0
+
+-- the entering point, then the leaving point
+abbrev pub floatsOf : Points → List Float
+floatsOf a = a .enter .x ∷ a .enter .y ∷ a .enter .z ∷ a .leave .x ∷ a .leave .y ∷ a .leave .z ∷ []
+
+-- what a door returns and leaves in the lists lent, from what they held
+pub record Appended (g : Grid) (r : Ray) (densities voxels parts answer : List ℕ) (filled code : ℕ) (voxels′ parts′ answer′ : List ℕ) : Type 0 where
+  pub code-is : code ≡ answerOf g r densities (length voxels) (length parts) filled .code
+  pub voxels-now : voxels′ ≡ voxelsAfter g r (length densities) voxels parts filled
+  pub parts-now : parts′ ≡ partsAfter g r (length densities) voxels parts filled
+  pub answer-now : answer′ ≡ put (sixIn (answerOf g r densities (length voxels) (length parts) filled)) answer
+
+pub record Pointed (g : Grid) (r : Ray) (mark : List ℕ) (floats : List Float) (code : ℕ) (mark′ : List ℕ) (floats′ : List Float) : Type 0 where
+  pub code-is : code ≡ codeIn (pointsOf bench g r .mark)
+  pub mark-now : mark′ ≡ put (markOf (pointsOf bench g r .mark) ∷ []) mark
+  pub floats-now : floats′ ≡ put (floatsOf (pointsOf bench g r)) floats

@@ -1,0 +1,2 @@
+-- What the doors of the comparisons hand over.
+pub mod Doors
