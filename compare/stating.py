@@ -7,7 +7,7 @@ from typing import Mapping, NamedTuple, Union
 import oracle
 from lending import Call
 
-TRACE_FIELDS = ("entries", "planes crossed", "span", "D", "squared length", "weighted sum")
+TRACE_FIELDS = ("entries", "crossed", "span", "D", "squared", "sum")
 PLACE_FIELDS = ("enter", "leave")
 POINT_FIELDS = ("enter x", "enter y", "enter z", "leave x", "leave y", "leave z")
 REFUSED, MISS, HIT = range(3)  # marks of the point call, as in crates/outside
