@@ -54,18 +54,16 @@ class Run(NamedTuple):
         return f"{what}\n  call {at} of {self.sort} {self.number}, seed {self.seed}: {call}\n  again: {self.again}"
 
 
-def handed_back(driver: Path, calls: list[Call], margin: int, front: list[str]) -> bytes:
-    asked = b"".join(call.request() for call in calls)
-    ended = subprocess.run(front + machine.words(driver) + [str(margin)], input=asked, capture_output=True, timeout=600)
-    if ended.returncode:
-        print(f"driver: status {ended.returncode}, {ended.stderr[-2000:].decode(errors='replace')}")
-    return ended.stdout if ended.returncode == 0 else b""
-
-
 def compared(run: Run, calls: list[Call], margin: int = MARGIN, front: list[str] | None = None) -> tuple[Tally, list[bytes]]:
     """Makes the calls, and holds what came back of each to what is stated."""
-    memory = handed_back(run.driver, calls, margin, front or [])
+    command = (front or []) + machine.words(run.driver) + [str(margin)]
+    ended = subprocess.run(command, input=b"".join(call.request() for call in calls), capture_output=True, timeout=600)
+    memory = ended.stdout
     tally, found, start = Tally(), [], 0
+    if ended.returncode:
+        said = ended.stderr[-2000:].decode(errors="replace")
+        tally.check(False, f"{run.sort} {run.number}: the driver's status is {ended.returncode}: {said}\n  again: {run.again}")
+        return tally, found
     for at, call in enumerate(calls):
         wanted = stated(call, margin)
         whole = wanted.memory()
