@@ -8,3 +8,4 @@ pub mod Told
 pub mod Sign
 pub mod Every
 pub mod Written
+pub mod Once

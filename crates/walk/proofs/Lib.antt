@@ -18,3 +18,4 @@ pub mod Missed
 pub mod FewPlanes
 pub mod Alphas
 pub mod Counts
+pub mod Once

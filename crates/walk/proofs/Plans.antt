@@ -4,7 +4,7 @@ use mathlib.Core.Path.{_≡_, refl, sym, ap, _∙_}
 use mathlib.Core.Bool.{true, false, _||_, not}
 use mathlib.Core.List.{map}
 use native.Mathlib.Omega.{arith}
-use native.Mathlib.Nat.{le-antisymm, le-of-eq, le-trans, lt-of-lt-of-le, lt-of-le-of-lt, mul-pos}
+use native.Mathlib.Nat.{le-antisymm, le-of-eq, le-of-lt, le-trans, lt-of-lt-of-le, lt-of-le-of-lt, mul-pos}
 use borrow.Author.Tests.{leb-false, not-true, not-false}
 use lib.Dec.{leb}
 use Rattle.axis.specs.Leg.{factor, held, enters, leaves}
@@ -33,9 +33,9 @@ under-least d t l h = omega arith
 cut-le : (d l : ℕ) → min d l ≤ d
 cut-le d l = omega arith
 
-jump-by : (w : Way) (p q u x : ℕ) → Goes w p q → (p < q → x ≡ u) → (q < p → x + u ≡ 2 ^ 64) → Jump w u x
+jump-by : (w : Way) (p q u x : ℕ) → Goes w p q → (p < q → x ≡ u) → (q ≤ p → x + u ≡ 2 ^ 64) → Jump w u x
 jump-by up p q u x g a b = a g
-jump-by down p q u x g a b = b g
+jump-by down p q u x g a b = b (le-of-lt g)
 jump-by still p q u x g a b = tt
 
 module _ (s : Scene) (able : Able s) where
@@ -186,7 +186,7 @@ module _ (s : Scene) (f : Frame) where
       by-size Z = bz
 
   abbrev Jumps : Side → ℕ → Type 0
-  Jumps o x = (line s o .p < line s o .q → x ≡ unit (volumeOf s) o) × (line s o .q < line s o .p → x + unit (volumeOf s) o ≡ 2 ^ 64)
+  Jumps o x = (line s o .p < line s o .q → x ≡ unit (volumeOf s) o) × (line s o .q ≤ line s o .p → x + unit (volumeOf s) o ≡ 2 ^ 64)
 
   pub strided : (vx vy vz : ℕ) → Jumps X vx → Jumps Y vy → Jumps Z vz
       → Strided s f (record { dx = s .x .d * f .cx; dy = s .y .d * f .cy; dz = s .z .d * f .cz; vx = vx; vy = vy; vz = vz })

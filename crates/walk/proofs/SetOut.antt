@@ -57,8 +57,8 @@ framed s = record { rests = rest-at s; d-is = refl; from-is = refl; to-is = refl
 abbrev jump : (p q u : ℕ) → ℕ
 jump p q u = cond (ltb p q) u (2 ^ 64 - u)
 
-jumps : (p q u : ℕ) → u ≤ 2 ^ 64 → (p < q → jump p q u ≡ u) × (q < p → jump p q u + u ≡ 2 ^ 64)
-jumps p q u h = ((λ k. rw (lt-ltb p q k) refl), (λ k. rw (le-ltb p q (omega arith)) (omega arith)))
+jumps : (p q u : ℕ) → u ≤ 2 ^ 64 → (p < q → jump p q u ≡ u) × (q ≤ p → jump p q u + u ≡ 2 ^ 64)
+jumps p q u h = ((λ k. rw (lt-ltb p q k) refl), (λ k. rw (le-ltb p q k) (omega arith)))
 
 module _ (s : Scene) (able : Able s) where
   unit-few : (o : Side) → unit (volumeOf s) o ≤ 2 ^ 64

@@ -55,7 +55,7 @@ unit v Z = v Y .n * v X .n
 pub record Strided (s : Scene) (f : Frame) (t : Strides) : Type 0 where
   pub ticks : (o : Side) → stepOf t o ≡ line s o .d * restOf f o
   pub upward : (o : Side) → line s o .p < line s o .q → jumpOf t o ≡ unit (volumeOf s) o
-  pub downward : (o : Side) → line s o .q < line s o .p → jumpOf t o + unit (volumeOf s) o ≡ 2 ^ 64
+  pub downward : (o : Side) → line s o .q ≤ line s o .p → jumpOf t o + unit (volumeOf s) o ≡ 2 ^ 64
 
 -- the walk's first voxel, at `at` on each axis
 pub record Begun (s : Scene) (f : Frame) (w : Walk) : Type 0 where

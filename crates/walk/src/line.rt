@@ -101,10 +101,11 @@ impl Line {
     }
 
     // What one voxel on, in the way of the ray, adds to the number modulo 2^64, where a voxel of the axis counts unit.
+    // A still axis is never left; its answer is that of a ray going down.
     pub fn jump(self, unit: u64) -> u64
         requires { ⌜ 0 < unit ⌝ }
         ensures { λ r. ⌜ (self .p < self .q → r ≡ unit) ⌝ }
-        ensures { λ r. ⌜ (self .q < self .p → r + unit ≡ 2 ^ 64) ⌝ }
+        ensures { λ r. ⌜ (self .q ≤ self .p → r + unit ≡ 2 ^ 64) ⌝ }
     {
         if self.p < self.q {
             unit

@@ -129,6 +129,7 @@ fn crossed_of(s: Scene, f: Frame) -> u64
 pub fn plan_of(s: Scene, f: Frame) -> Plan
     requires { ⌜ Able s × Framed s f × (f .hit ≡ true) ⌝ }
     ensures { λ r. ⌜ Planned s (f .to) r ⌝ }
+    ensures { λ r. ⌜ Begun s f (r .walk) × Strided s f (r .strides) ⌝ }
 {
     let walk = walk_of(s, f);
     let strides = strides_of(s, f);

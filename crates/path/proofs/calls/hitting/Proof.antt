@@ -13,27 +13,27 @@ plan-of-requires : tie.Need-plan-of-requires
 plan-of-requires c κs = search needs
 
 fits-requires : tie.Need-fits-requires
-fits-requires c κs = (c .plan-of .ensures .forward, few (c .before .before .before .before .args .s) (c .before .before .before .before .args .f) _ _ _ (c .before .before .before .before .pre) (c .plan-of .result) (c .plan-of .ensures))
+fits-requires c κs = (c .plan-of .ensures .0 .forward, few (c .before .before .before .before .args .s) (c .before .before .before .before .args .f) _ _ _ (c .before .before .before .before .pre) (c .plan-of .result) (c .plan-of .ensures .0))
 
 fill-requires : tie.Need-fill-requires
 fill-requires c κs =
     let le = leb-true _ _ (sym (c .before .before .before .fits2 .ensures) ∙ c .before .before .if1 .taken) in
-    (c .before .before .before .before .plan-of .ensures .forward, (le, omega (arith, c .before .before .before .before .before .before .before .before .pre .lists-are)))
+    (c .before .before .before .before .plan-of .ensures .0 .forward, (le, omega (arith, c .before .before .before .before .before .before .before .before .pre .lists-are)))
 
 slice-reshare-prefix-weigh : tie.Need-slice-reshare-prefix-weigh
-slice-reshare-prefix-weigh c = within-v (c .before .before .before .before .before .before .before .before .before .before .before .before .before .args .s) (c .before .before .before .before .before .before .before .before .before .before .before .before .before .args .f) _ _ _ (c .before .before .before .before .before .before .before .before .before .before .before .before .before .pre) (c .before .before .before .before .before .before .before .before .before .plan-of .result) (c .before .before .before .before .before .before .before .before .before .plan-of .ensures) (c .before .before .before .before .fill .result) _ _ _ _ (c .before .before .before .before .fill .ensures)
+slice-reshare-prefix-weigh c = within-v (c .before .before .before .before .before .before .before .before .before .before .before .before .before .args .s) (c .before .before .before .before .before .before .before .before .before .before .before .before .before .args .f) _ _ _ (c .before .before .before .before .before .before .before .before .before .before .before .before .before .pre) (c .before .before .before .before .before .before .before .before .before .plan-of .result) (c .before .before .before .before .before .before .before .before .before .plan-of .ensures .0) (c .before .before .before .before .fill .result) _ _ _ _ (c .before .before .before .before .fill .ensures)
 
 slice-aggregate-weigh : tie.Need-slice-aggregate-weigh
-slice-aggregate-weigh c = length-v (c .before .before .before .before .before .before .before .before .before .before .before .before .before .before .args .s) (c .before .before .before .before .before .before .before .before .before .before .before .before .before .before .args .f) _ _ _ (c .before .before .before .before .before .before .before .before .before .before .before .before .before .before .pre) (c .before .before .before .before .before .before .before .before .before .before .plan-of .result) (c .before .before .before .before .before .before .before .before .before .before .plan-of .ensures) (c .before .before .before .before .before .fill .result) _ _ _ _ (c .before .before .before .before .before .fill .ensures)
+slice-aggregate-weigh c = length-v (c .before .before .before .before .before .before .before .before .before .before .before .before .before .before .args .s) (c .before .before .before .before .before .before .before .before .before .before .before .before .before .before .args .f) _ _ _ (c .before .before .before .before .before .before .before .before .before .before .before .before .before .before .pre) (c .before .before .before .before .before .before .before .before .before .before .plan-of .result) (c .before .before .before .before .before .before .before .before .before .before .plan-of .ensures .0) (c .before .before .before .before .before .fill .result) _ _ _ _ (c .before .before .before .before .before .fill .ensures)
 
 slice-reshare-prefix-weigh-2 : tie.Need-slice-reshare-prefix-weigh-2
-slice-reshare-prefix-weigh-2 c = within-p (c .before .before .before .before .before .before .before .before .before .before .before .before .before .before .args .s) (c .before .before .before .before .before .before .before .before .before .before .before .before .before .before .args .f) _ _ _ (c .before .before .before .before .before .before .before .before .before .before .before .before .before .before .pre) (c .before .before .before .before .before .before .before .before .before .before .plan-of .result) (c .before .before .before .before .before .before .before .before .before .before .plan-of .ensures) (c .before .before .before .before .before .fill .result) _ _ _ _ (c .before .before .before .before .before .fill .ensures)
+slice-reshare-prefix-weigh-2 c = within-p (c .before .before .before .before .before .before .before .before .before .before .before .before .before .before .args .s) (c .before .before .before .before .before .before .before .before .before .before .before .before .before .before .args .f) _ _ _ (c .before .before .before .before .before .before .before .before .before .before .before .before .before .before .pre) (c .before .before .before .before .before .before .before .before .before .before .plan-of .result) (c .before .before .before .before .before .before .before .before .before .before .plan-of .ensures .0) (c .before .before .before .before .before .fill .result) _ _ _ _ (c .before .before .before .before .before .fill .ensures)
 
 slice-aggregate-weigh-2 : tie.Need-slice-aggregate-weigh-2
-slice-aggregate-weigh-2 c = length-p (c .before .before .before .before .before .before .before .before .before .before .before .before .before .before .before .args .s) (c .before .before .before .before .before .before .before .before .before .before .before .before .before .before .before .args .f) _ _ _ (c .before .before .before .before .before .before .before .before .before .before .before .before .before .before .before .pre) (c .before .before .before .before .before .before .before .before .before .before .before .plan-of .result) (c .before .before .before .before .before .before .before .before .before .before .before .plan-of .ensures) (c .before .before .before .before .before .before .fill .result) _ _ _ _ (c .before .before .before .before .before .before .fill .ensures)
+slice-aggregate-weigh-2 c = length-p (c .before .before .before .before .before .before .before .before .before .before .before .before .before .before .before .args .s) (c .before .before .before .before .before .before .before .before .before .before .before .before .before .before .before .args .f) _ _ _ (c .before .before .before .before .before .before .before .before .before .before .before .before .before .before .before .pre) (c .before .before .before .before .before .before .before .before .before .before .before .plan-of .result) (c .before .before .before .before .before .before .before .before .before .before .before .plan-of .ensures .0) (c .before .before .before .before .before .before .fill .result) _ _ _ _ (c .before .before .before .before .before .before .fill .ensures)
 
 weigh-requires : tie.Need-weigh-requires
-weigh-requires c κs = weighable (c .before .before .before .before .before .before .before .before .before .before .before .before .before .before .before .args .s) (c .before .before .before .before .before .before .before .before .before .before .before .before .before .before .before .args .f) _ _ _ (c .before .before .before .before .before .before .before .before .before .before .before .before .before .before .before .pre) (c .before .before .before .before .before .before .before .before .before .before .before .plan-of .result) (c .before .before .before .before .before .before .before .before .before .before .before .plan-of .ensures) (c .before .before .before .before .before .before .fill .result) _ _ _ _ (c .before .before .before .before .before .before .fill .ensures) (c .before .before .before .before .before .before .before .before .before .before .before .before .before .before .before .args .densities .now) refl
+weigh-requires c κs = weighable (c .before .before .before .before .before .before .before .before .before .before .before .before .before .before .before .args .s) (c .before .before .before .before .before .before .before .before .before .before .before .before .before .before .before .args .f) _ _ _ (c .before .before .before .before .before .before .before .before .before .before .before .before .before .before .before .pre) (c .before .before .before .before .before .before .before .before .before .before .before .plan-of .result) (c .before .before .before .before .before .before .before .before .before .before .before .plan-of .ensures .0) (c .before .before .before .before .before .before .fill .result) _ _ _ _ (c .before .before .before .before .before .before .fill .ensures) (c .before .before .before .before .before .before .before .before .before .before .before .before .before .before .before .args .densities .now) refl
 
 squared-of-requires : tie.Need-squared-of-requires
 squared-of-requires c κs = search needs
@@ -52,14 +52,14 @@ same-length-2 c = search needs
 
 returns : tie.Need-returns
 returns c =
-    let roomy = ap (λ (n : ℕ). leb n (length (c .before .before .before .before .before .before .before .before .before .before .before .before .before .before .before .before .before .before .args .voxels .now))) (sym (number (c .before .before .before .before .before .before .before .before .before .before .before .before .before .before .before .before .before .before .args .s) (c .before .before .before .before .before .before .before .before .before .before .before .before .before .before .before .before .before .before .args .f) _ _ _ (c .before .before .before .before .before .before .before .before .before .before .before .before .before .before .before .before .before .before .pre) (c .before .before .before .before .before .before .before .before .before .before .before .before .before .before .plan-of .result) (c .before .before .before .before .before .before .before .before .before .before .before .before .before .before .plan-of .ensures))) ∙ sym (c .before .before .before .before .before .before .before .before .before .before .before .before .before .fits2 .ensures) ∙ c .before .before .before .before .before .before .before .before .before .before .before .before .if1 .taken in (
-      rw roomy (accepted-is (c .before .before .before .before .before .before .before .before .before .before .before .before .before .before .before .before .before .before .args .s) (c .before .before .before .before .before .before .before .before .before .before .before .before .before .before .before .before .before .before .args .f) _ _ _ (c .before .before .before .before .before .before .before .before .before .before .before .before .before .before .before .before .before .before .pre) (c .before .before .before .before .before .before .before .before .before .before .before .before .before .before .plan-of .result) (c .before .before .before .before .before .before .before .before .before .before .before .before .before .before .plan-of .ensures) (c .before .before .before .before .before .before .before .before .before .fill .result) _ _ _ _ (c .before .before .before .before .before .before .before .before .before .fill .ensures) (c .before .before .before .before .before .before .before .before .before .before .before .before .before .before .before .before .before .before .args .densities .now) _ _ (c .before .before .weigh .ensures) (c .before .squared-of .ensures)),
-      (rw roomy (voxels-written (c .before .before .before .before .before .before .before .before .before .before .before .before .before .before .before .before .before .before .args .s) (c .before .before .before .before .before .before .before .before .before .before .before .before .before .before .before .before .before .before .args .f) _ _ _ (c .before .before .before .before .before .before .before .before .before .before .before .before .before .before .before .before .before .before .pre) (c .before .before .before .before .before .before .before .before .before .before .before .before .before .before .plan-of .result) (c .before .before .before .before .before .before .before .before .before .before .before .before .before .before .plan-of .ensures) (c .before .before .before .before .before .before .before .before .before .fill .result) _ _ _ _ (c .before .before .before .before .before .before .before .before .before .fill .ensures)), rw roomy (parts-written (c .before .before .before .before .before .before .before .before .before .before .before .before .before .before .before .before .before .before .args .s) (c .before .before .before .before .before .before .before .before .before .before .before .before .before .before .before .before .before .before .args .f) _ _ _ (c .before .before .before .before .before .before .before .before .before .before .before .before .before .before .before .before .before .before .pre) (c .before .before .before .before .before .before .before .before .before .before .before .before .before .before .plan-of .result) (c .before .before .before .before .before .before .before .before .before .before .before .before .before .before .plan-of .ensures) (c .before .before .before .before .before .before .before .before .before .fill .result) _ _ _ _ (c .before .before .before .before .before .before .before .before .before .fill .ensures))),
+    let roomy = ap (λ (n : ℕ). leb n (length (c .before .before .before .before .before .before .before .before .before .before .before .before .before .before .before .before .before .before .args .voxels .now))) (sym (number (c .before .before .before .before .before .before .before .before .before .before .before .before .before .before .before .before .before .before .args .s) (c .before .before .before .before .before .before .before .before .before .before .before .before .before .before .before .before .before .before .args .f) _ _ _ (c .before .before .before .before .before .before .before .before .before .before .before .before .before .before .before .before .before .before .pre) (c .before .before .before .before .before .before .before .before .before .before .before .before .before .before .plan-of .result) (c .before .before .before .before .before .before .before .before .before .before .before .before .before .before .plan-of .ensures .0))) ∙ sym (c .before .before .before .before .before .before .before .before .before .before .before .before .before .fits2 .ensures) ∙ c .before .before .before .before .before .before .before .before .before .before .before .before .if1 .taken in (
+      rw roomy (accepted-is (c .before .before .before .before .before .before .before .before .before .before .before .before .before .before .before .before .before .before .args .s) (c .before .before .before .before .before .before .before .before .before .before .before .before .before .before .before .before .before .before .args .f) _ _ _ (c .before .before .before .before .before .before .before .before .before .before .before .before .before .before .before .before .before .before .pre) (c .before .before .before .before .before .before .before .before .before .before .before .before .before .before .plan-of .result) (c .before .before .before .before .before .before .before .before .before .before .before .before .before .before .plan-of .ensures .0) (c .before .before .before .before .before .before .before .before .before .fill .result) _ _ _ _ (c .before .before .before .before .before .before .before .before .before .fill .ensures) (c .before .before .before .before .before .before .before .before .before .before .before .before .before .before .before .before .before .before .args .densities .now) _ _ (c .before .before .weigh .ensures) (c .before .squared-of .ensures)),
+      (rw roomy (voxels-written (c .before .before .before .before .before .before .before .before .before .before .before .before .before .before .before .before .before .before .args .s) (c .before .before .before .before .before .before .before .before .before .before .before .before .before .before .before .before .before .before .args .f) _ _ _ (c .before .before .before .before .before .before .before .before .before .before .before .before .before .before .before .before .before .before .pre) (c .before .before .before .before .before .before .before .before .before .before .before .before .before .before .plan-of .result) (c .before .before .before .before .before .before .before .before .before .before .before .before .before .before .plan-of .ensures .0) (c .before .before .before .before .before .before .before .before .before .fill .result) _ _ _ _ (c .before .before .before .before .before .before .before .before .before .fill .ensures)), rw roomy (parts-written (c .before .before .before .before .before .before .before .before .before .before .before .before .before .before .before .before .before .before .args .s) (c .before .before .before .before .before .before .before .before .before .before .before .before .before .before .before .before .before .before .args .f) _ _ _ (c .before .before .before .before .before .before .before .before .before .before .before .before .before .before .before .before .before .before .pre) (c .before .before .before .before .before .before .before .before .before .before .before .before .before .before .plan-of .result) (c .before .before .before .before .before .before .before .before .before .before .before .before .before .before .plan-of .ensures .0) (c .before .before .before .before .before .before .before .before .before .fill .result) _ _ _ _ (c .before .before .before .before .before .before .before .before .before .fill .ensures))),
     )
 
 returns-2 : tie.Need-returns-2
 returns-2 c =
-    let tight = ap (λ (n : ℕ). leb n (length (c .before .before .before .before .before .before .before .args .voxels .now))) (sym (number (c .before .before .before .before .before .before .before .args .s) (c .before .before .before .before .before .before .before .args .f) _ _ _ (c .before .before .before .before .before .before .before .pre) (c .before .before .before .plan-of .result) (c .before .before .before .plan-of .ensures))) ∙ sym (c .before .before .fits2 .ensures) ∙ c .before .if1 .left in
+    let tight = ap (λ (n : ℕ). leb n (length (c .before .before .before .before .before .before .before .args .voxels .now))) (sym (number (c .before .before .before .before .before .before .before .args .s) (c .before .before .before .before .before .before .before .args .f) _ _ _ (c .before .before .before .before .before .before .before .pre) (c .before .before .before .plan-of .result) (c .before .before .before .plan-of .ensures .0))) ∙ sym (c .before .before .fits2 .ensures) ∙ c .before .if1 .left in
     (rw tight (c .refusal .ensures), (rw tight refl, rw tight refl))
 
 pub hitting-spec : {M : Type 1} → statement M

@@ -28,7 +28,7 @@ counted c =
     let k = c .before .before .before .before .before .before .code-but-room in
     let none = c .before .before .before .before .before .if1 .left in
     by-room (a .g) (a .r) _ _ _ (k .ensures .1 none) _ none (k .ensures .0) _ (c .before .before .before .before .scene-of .ensures) _
-    (c .count .ensures ∙ entries-number _ _ _ (c .before .plan-of .ensures))
+    (c .count .ensures ∙ entries-number _ _ _ (c .before .plan-of .ensures .0))
 
 code-but-room-requires : tie.Need-code-but-room-requires
 code-but-room-requires c κs = search needs

@@ -16,7 +16,9 @@ returns : tie.Need-returns
 returns c =
     let a = c .before .before .before .args in
     let p = c .before .before .before .pre in
-    planned (a .s) (p .0) (a .f) (p .1) (p .2) (c .before .before .walk-of .result) (c .before .before .walk-of .ensures) (c .before .strides-of .result) (c .before .strides-of .ensures) _ (c .crossed-of .ensures)
+    let w = c .before .before .walk-of in
+    let t = c .before .strides-of in
+    (planned (a .s) (p .0) (a .f) (p .1) (p .2) (w .result) (w .ensures) (t .result) (t .ensures) _ (c .crossed-of .ensures), (w .ensures, t .ensures))
 
 pub plan-of-spec : {M : Type 1} → statement M
 plan-of-spec =
