@@ -15,7 +15,6 @@ use Rattle.job.specs.declared.whole.Written.the-variants.{All, Short}
 use Rattle.job.specs.Stand.{Stand, atFirst, standOf}
 use Rattle.job.specs.Job.{jobFrom, jobOf}
 use Rattle.job.specs.Sound.{Sound, Begun, Pumping, more}
-use Rattle.job.specs.Sound.{room as most}
 use Rattle.job.specs.Read.{written}
 
 -- what a function that writes a text into a list promises
@@ -31,8 +30,8 @@ pub wrote-short : (text out : List ℕ) (room : ℕ) → room < length text → 
 wrote-short text out room h = (rw (lt-leb (length text) room h) refl, λ g. absurd (omega arith))
 
 -- an answer has room in the list lent for it
-pub answer-length : (n : ℕ) (l : List ℕ) {m k : ℕ} → n ≤ 0 + most → length l ≡ m → m ≡ k → most ≤ k → length (take n l) ≡ n
-answer-length n l h e f g = length-take-le n l (omega arith)
+pub answer-length : (n : ℕ) (l : List ℕ) {m : ℕ} → n ≤ m → length l ≡ m → length (take n l) ≡ n
+answer-length n l h e = length-take-le n l (omega arith)
 
 pub record Running (input line densities out : List ℕ) (st : State) (next to : ℕ) : Type 0 where
   pub sound : Sound st
@@ -73,7 +72,7 @@ module _ {input line densities out : List ℕ} {st : State} {next to : ℕ} (r :
       pub run-ends : (room : ℕ) → length out′ ≡ room → rest ≡ [] → Wrote (jobOf input) out′ room (All to′)
       run-ends room l e = wrote-all out′ to′ room (behind ∙ rw (e, put) (append-nil (take to out ++ o))) fits l
 
-      pub run-on : (line′ densities′ : List ℕ) (p : Pumped) → Pumping st 0 next (length input) line′ p → rest ≡ jobFrom (standOf (p .moved .state) densities′) (take (p .moved .state .have) line′ ++ drop (p .next) input) → Running input line′ densities′ out′ (p .moved .state) (p .next) to′
+      pub run-on : (line′ densities′ : List ℕ) (p : Pumped) → {most : ℕ} → Pumping st next (length input) line′ most p → rest ≡ jobFrom (standOf (p .moved .state) densities′) (take (p .moved .state .have) line′ ++ drop (p .next) input) → Running input line′ densities′ out′ (p .moved .state) (p .next) to′
       run-on line′ densities′ p h e = record {
         sound = h .sound;
         begun = h .begun;
