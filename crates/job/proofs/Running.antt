@@ -1,12 +1,13 @@
 -- The whole job in memory: what its loop keeps, and what it comes to. Assumes nothing.
 use Prim.Native.Nat.{ℕ, _+_, _≤_, _<_}
-use mathlib.Core.Bool.{Bool}
+use mathlib.Core.Bool.{Bool, true, false, cond}
 use mathlib.Core.List.{List, [], _++_, append-assoc, append-nil}
 use mathlib.Core.Path.{_≡_, refl, ap, sym, _∙_}
+use lib.Dec.{leb}
 use lib.ListN.{length, take, drop, length-append, drop-of-length-le}
 use lib.Seq.{length-take-le}
 use native.Mathlib.Omega.{arith}
-use borrow.Author.Tests.{le-leb, lt-leb}
+use borrow.Author.Tests.{le-leb, lt-leb, leb-true}
 use Rattle.text.specs.Split.{until}
 use Rattle.job.specs.declared.state.State.{State}
 use Rattle.job.specs.declared.step.Pumped.{Pumped}
@@ -28,6 +29,14 @@ wrote-all {text} out to room e h l =
 
 pub wrote-short : (text out : List ℕ) (room : ℕ) → room < length text → Wrote text out room Short
 wrote-short text out room h = (rw (lt-leb (length text) room h) refl, λ g. absurd (omega arith))
+
+-- what is written has room
+pub written-fits : (text : List ℕ) (room n : ℕ) → written text room ≡ All n → n ≤ room
+written-fits text room n = go (leb (length text) room) refl
+  where
+    go : (b : Bool) → leb (length text) room ≡ b → cond b (All (length text)) Short ≡ All n → n ≤ room
+    go true e h = let m : length text ≡ n = cc in omega (arith, leb-true (length text) room e)
+    go false e h = let z : _≡_ {A = ℕ} 0 1 = cc in absurd (omega arith)
 
 -- an answer has room in the list lent for it
 pub answer-length : (n : ℕ) (l : List ℕ) {m : ℕ} → n ≤ m → length l ≡ m → length (take n l) ≡ n

@@ -57,8 +57,8 @@ pub record Kept (st : State) (at : ℕ) (m : Moved) : Type 0 where
   pub lines : m .state .lines ≤ st .lines + 1
   pub room : m .at ≤ at + room
 
--- A piece of so many bytes is taken in from `from` on, `line` is lent, and the output has so many bytes. A line that is read, and a
--- byte that stands of the next, is a byte of the piece.
+-- A piece of so many bytes is taken in from `from` on, `line` is lent, and the output has so many bytes. Each line that is read took a
+-- byte of the piece, and so did each byte that stands of the next line.
 pub record Pumping (st : State) (from piece : ℕ) (line : List ℕ) (out : ℕ) (r : Pumped) : Type 0 where
   pub sound : Sound (r .moved .state)
   pub begun : Begun (r .moved .state .have) line

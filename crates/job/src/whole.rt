@@ -16,8 +16,8 @@ pub enum Written {
     Short,
 }
 
-// The job's output goes through `answer`, so that it is known to fit before it is put
-// behind the rest.
+// The job's output goes through `answer`, so that it is known to fit before it is put behind the
+// rest.
 fn run(
     input: &[u8],
     line: &mut [u8],

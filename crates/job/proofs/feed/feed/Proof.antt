@@ -1,10 +1,11 @@
 -- `job::feed::feed` meets its contract. The loop keeps `Feeding`, and the lists keep their lengths. Assumes nothing.
-use Prim.Native.Nat.{_-_}
+use Prim.Native.Nat.{ℕ, _-_}
 use mathlib.Core.Bool.{false}
+use mathlib.Core.List.{List}
 use mathlib.Core.Path.{_≡_, refl, sym, ap, _∙_}
 use native.Mathlib.Omega.{arith}
 use lib.ListN.{length}
-use Rattle.job.specs.Sound.{another}
+use Rattle.job.specs.Sound.{starting, inAll, another}
 use Rattle.job.proofs.Feeding.{Feeding, goes-on, feed-begins, feed-on, feed-moves}
 use Rattle.job.proofs.feed.feed.Statement.{statement}
 use Rattle.job.proofs.feed.feed.Tie as tie
@@ -31,7 +32,7 @@ pump-requires c κs =
     let o = c .before .before .before .before .before .before .loop in
     let f = o .inv .3 in
     let go = goes-on (o .p) (length (s .args .piece .now)) (length (o .out)) (omega (arith, f .taken .room, o .inv .2)) (sym (c .before .before .before .before .before .another .ensures) ∙ c .before .before .before .before .if1 .taken) in
-    (f .taken .sound, f .taken .begun, record { room = go .2; number = omega (arith, f .taken .lines, s .pre .1 .2, go .1) }, record { line = omega (arith, o .inv .0, s .pre .0 .2 .line); densities = omega (arith, o .inv .1, s .pre .0 .2 .densities) }, f .taken .within)
+    (f .taken .sound, f .taken .begun, record { room = omega (arith, go .2); number = omega (arith, f .taken .lines, s .pre .1 .2, go .1) }, record { line = omega (arith, o .inv .0, s .pre .0 .2 .line); densities = omega (arith, o .inv .1, s .pre .0 .2 .densities) }, omega (arith, f .taken .within, s .pre .1 .1))
 
 loop-less : tie.Need-loop-less Inv-loop μ-loop
 loop-less c =
@@ -41,7 +42,7 @@ loop-less c =
     let f = o .inv .3 in
     let q = c .before .before .before .before .before .before .pump in
     let go = goes-on (o .p) (length (a .piece .now)) (length (o .out)) (omega (arith, f .taken .room, o .inv .2)) (sym (c .before .before .before .before .before .before .before .before .before .before .before .before .another .ensures) ∙ c .before .before .before .before .before .before .before .before .before .before .before .if1 .taken) in
-    omega (arith, q .ensures .0 .1 (go .1), q .ensures .0 .0 .within)
+    omega (arith, q .ensures .0 .1 (omega (arith, go .1, f .taken .back)), q .ensures .0 .0 .within)
 
 loop-again : tie.Need-loop-again Inv-loop μ-loop
 loop-again c =
@@ -51,7 +52,8 @@ loop-again c =
     let f = o .inv .3 in
     let q = c .before .before .before .before .before .before .pump in
     let go = goes-on (o .p) (length (a .piece .now)) (length (o .out)) (omega (arith, f .taken .room, o .inv .2)) (sym (c .before .before .before .before .before .before .before .before .before .before .before .before .another .ensures) ∙ c .before .before .before .before .before .before .before .before .before .before .before .if1 .taken) in
-    (q .kept .1 .0 ∙ o .inv .0, q .kept .1 .1 .1 .1 .0 ∙ o .inv .1, q .kept .1 .1 .1 .1 .1 .0 ∙ o .inv .2, feed-on (a .st) (a .from) (a .piece .now) (a .line .now) (a .densities .now) (a .out .now) f (q .last .1 .0) (q .last .1 .1 .1 .1 .0) (q .last .1 .1 .1 .1 .1 .0) (q .result) (go .0) (go .1) (q .ensures .0 .0) (o .inv .2) (q .ensures .0 .1 (go .1)) (q .ensures .1))
+    let turn : (later : List ℕ) → inAll (starting (o .p .moved .state) (o .p .moved .at) (o .p .next)) (o .line) (o .densities) (o .out) (a .piece .now) later ≡ inAll (q .result) (q .last .1 .0) (q .last .1 .1 .1 .1 .0) (q .last .1 .1 .1 .1 .1 .0) (a .piece .now) later = q .ensures .1 in
+    (q .kept .1 .0 ∙ o .inv .0, q .kept .1 .1 .1 .1 .0 ∙ o .inv .1, q .kept .1 .1 .1 .1 .1 .0 ∙ o .inv .2, feed-on (a .st) (a .from) (a .piece .now) (a .line .now) (a .densities .now) (a .out .now) f (q .last .1 .0) (q .last .1 .1 .1 .1 .0) (q .last .1 .1 .1 .1 .1 .0) (q .result) (go .0) (go .1) (q .ensures .0 .0) (o .inv .2) (q .ensures .0 .1 (go .1)) turn)
 
 same-length : tie.Need-same-length Inv-loop μ-loop
 same-length c = c .before .before .loop .inv .0
