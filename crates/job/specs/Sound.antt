@@ -87,8 +87,8 @@ more false l = []
 abbrev pub starting : State → (at from : ℕ) → Pumped
 starting st at from = record { moved = record { state = st; at = at; going = true }; next = from }
 
--- All that the job prints, seen from one place in it: the bytes that stand in the output, and behind them what it prints from where it
--- stands on the line that has begun, the rest of the piece, and whatever comes later.
+-- All that the job prints (RULES 10), seen from one place in it: the bytes that stand in the output, and behind them what it prints from
+-- where it stands on the line that has begun, the rest of the piece, and whatever comes later.
 abbrev pub inAll : Pumped → (line densities out piece later : List ℕ) → List ℕ
 inAll p line densities out piece later =
     take (p .moved .at) out

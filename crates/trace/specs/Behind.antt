@@ -1,4 +1,4 @@
--- Where the job stands behind a piece of the input. Definitions only. Assumes nothing.
+-- Where the job (RULES 10) stands behind a piece of the input. Definitions only. Assumes nothing.
 use mathlib.Core.List.{List, _++_}
 use mathlib.Core.Path.{_≡_}
 use Prim.Native.Nat.{ℕ}
