@@ -12,5 +12,6 @@ pub mod Flow
 pub mod Places
 pub mod Ending
 pub mod Turns
+pub mod Feeding
 pub mod Running
 pub mod Tracing

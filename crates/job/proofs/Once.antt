@@ -1,18 +1,22 @@
--- Two answers allowed by the promise of the whole job are equal, and so are the bytes of both outputs as far as the job prints; so
--- are two first states, and what two ends of the input print. Assumes nothing.
+-- Two answers that a promise allows are equal, and so are the bytes of both outputs as far as the job prints. Of `feed` and `pump`,
+-- which do not say how much of a piece one call takes, two allowed answers print the same in all, whatever comes later.
+-- Assumes nothing.
 use Prim.Native.Nat.{ℕ, zero, suc, _+_, _≤_}
-use mathlib.Core.List.{List, [], _∷_, _++_}
-use mathlib.Core.Path.{_≡_, refl, ap}
+use mathlib.Core.Bool.{false}
+use mathlib.Core.List.{List, [], _∷_, _++_, append-nil}
+use mathlib.Core.Path.{_≡_, refl, ap, sym, _∙_}
 use native.Mathlib.Omega.{arith}
 use lib.ListN.{length, take}
+use lib.Seq.{length-take-le}
 use Rattle.axis.proofs.Once.{once}
 use Rattle.text.proofs.Once.{put-once}
 use Rattle.job.specs.declared.state.State.{State}
+use Rattle.job.specs.declared.step.Pumped.{Pumped}
 use Rattle.job.specs.declared.whole.Written.{Written}
 use Rattle.job.specs.Stand.{Stand, atFirst, standOf}
 use Rattle.job.specs.Job.{jobFrom, jobOf}
-use Rattle.job.specs.Sound.{Begun, room}
 use Rattle.job.specs.Read.{written}
+use Rattle.job.specs.Sound.{Begun, inAll, room}
 
 pub job-once : (input : List ℕ) (room : ℕ) (r s : Written) (out out′ : List ℕ)
     → r ≡ written (jobOf input) room → (length (jobOf input) ≤ room → take (length (jobOf input)) out ≡ jobOf input)
@@ -44,3 +48,16 @@ pub finish-once : (st : State) (before line densities : List ℕ) (at r r′ : �
     → (r ≡ r′) × (take r out ≡ take r′ out′)
 finish-once st before line densities at r r′ out out′ o o′ begun h e h′ e′ =
     put-once before (jobFrom (standOf st densities) (take (st .have) line)) at r r′ out out′ (omega arith) (omega arith) (e line densities begun) (e′ line densities begun)
+
+-- `r` and `s` are answers of `feed`, or of `pump`, called where `p` says
+module _ (p r s : Pumped) (line₀ densities₀ out₀ piece line densities out line′ densities′ out′ : List ℕ)
+    (e : (later : List ℕ) → inAll p line₀ densities₀ out₀ piece later ≡ inAll r line densities out piece later)
+    (e′ : (later : List ℕ) → inAll p line₀ densities₀ out₀ piece later ≡ inAll s line′ densities′ out′ piece later) where
+  pub feed-once : (later : List ℕ) → inAll r line densities out piece later ≡ inAll s line′ densities′ out′ piece later
+  feed-once later = sym (e later) ∙ e′ later
+
+  -- where the job has stopped, all that it prints is printed
+  pub stopped-once : r .moved .going ≡ false → s .moved .going ≡ false → r .moved .at ≤ length out → s .moved .at ≤ length out′ → (r .moved .at ≡ s .moved .at) × (take (r .moved .at) out ≡ take (s .moved .at) out′)
+  stopped-once f f′ h h′ =
+      let same : take (r .moved .at) out ≡ take (s .moved .at) out′ = rw (f, f′, append-nil, append-nil) at (feed-once []) in
+      (sym (length-take-le (r .moved .at) out h) ∙ ap length same ∙ length-take-le (s .moved .at) out′ h′, same)

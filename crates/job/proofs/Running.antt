@@ -1,12 +1,13 @@
 -- The whole job in memory: what its loop keeps, and what it comes to. Assumes nothing.
 use Prim.Native.Nat.{ℕ, _+_, _≤_, _<_}
-use mathlib.Core.Bool.{Bool}
+use mathlib.Core.Bool.{Bool, true, false, cond}
 use mathlib.Core.List.{List, [], _++_, append-assoc, append-nil}
 use mathlib.Core.Path.{_≡_, refl, ap, sym, _∙_}
+use lib.Dec.{leb}
 use lib.ListN.{length, take, drop, length-append, drop-of-length-le}
 use lib.Seq.{length-take-le}
 use native.Mathlib.Omega.{arith}
-use borrow.Author.Tests.{le-leb, lt-leb}
+use borrow.Author.Tests.{le-leb, lt-leb, leb-true}
 use Rattle.text.specs.Split.{until}
 use Rattle.job.specs.declared.state.State.{State}
 use Rattle.job.specs.declared.step.Pumped.{Pumped}
@@ -15,7 +16,6 @@ use Rattle.job.specs.declared.whole.Written.the-variants.{All, Short}
 use Rattle.job.specs.Stand.{Stand, atFirst, standOf}
 use Rattle.job.specs.Job.{jobFrom, jobOf}
 use Rattle.job.specs.Sound.{Sound, Begun, Pumping, more}
-use Rattle.job.specs.Sound.{room as most}
 use Rattle.job.specs.Read.{written}
 
 -- what a function that writes a text into a list promises
@@ -30,9 +30,17 @@ wrote-all {text} out to room e h l =
 pub wrote-short : (text out : List ℕ) (room : ℕ) → room < length text → Wrote text out room Short
 wrote-short text out room h = (rw (lt-leb (length text) room h) refl, λ g. absurd (omega arith))
 
+-- what is written has room
+pub written-fits : (text : List ℕ) (room n : ℕ) → written text room ≡ All n → n ≤ room
+written-fits text room n = go (leb (length text) room) refl
+  where
+    go : (b : Bool) → leb (length text) room ≡ b → cond b (All (length text)) Short ≡ All n → n ≤ room
+    go true e h = let m : length text ≡ n = cc in omega (arith, leb-true (length text) room e)
+    go false e h = let z : _≡_ {A = ℕ} 0 1 = cc in absurd (omega arith)
+
 -- an answer has room in the list lent for it
-pub answer-length : (n : ℕ) (l : List ℕ) {m k : ℕ} → n ≤ 0 + most → length l ≡ m → m ≡ k → most ≤ k → length (take n l) ≡ n
-answer-length n l h e f g = length-take-le n l (omega arith)
+pub answer-length : (n : ℕ) (l : List ℕ) {m : ℕ} → n ≤ m → length l ≡ m → length (take n l) ≡ n
+answer-length n l h e = length-take-le n l (omega arith)
 
 pub record Running (input line densities out : List ℕ) (st : State) (next to : ℕ) : Type 0 where
   pub sound : Sound st
@@ -73,7 +81,7 @@ module _ {input line densities out : List ℕ} {st : State} {next to : ℕ} (r :
       pub run-ends : (room : ℕ) → length out′ ≡ room → rest ≡ [] → Wrote (jobOf input) out′ room (All to′)
       run-ends room l e = wrote-all out′ to′ room (behind ∙ rw (e, put) (append-nil (take to out ++ o))) fits l
 
-      pub run-on : (line′ densities′ : List ℕ) (p : Pumped) → Pumping st 0 next (length input) line′ p → rest ≡ jobFrom (standOf (p .moved .state) densities′) (take (p .moved .state .have) line′ ++ drop (p .next) input) → Running input line′ densities′ out′ (p .moved .state) (p .next) to′
+      pub run-on : (line′ densities′ : List ℕ) (p : Pumped) → {most : ℕ} → Pumping st next (length input) line′ most p → rest ≡ jobFrom (standOf (p .moved .state) densities′) (take (p .moved .state .have) line′ ++ drop (p .next) input) → Running input line′ densities′ out′ (p .moved .state) (p .next) to′
       run-on line′ densities′ p h e = record {
         sound = h .sound;
         begun = h .begun;

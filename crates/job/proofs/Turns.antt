@@ -13,7 +13,7 @@ use Rattle.job.specs.declared.cut.Cut.{Cut}
 use Rattle.job.specs.Stand.{standOf}
 use Rattle.job.specs.Line.{lineStep}
 use Rattle.job.specs.Job.{jobFrom}
-use Rattle.job.specs.Sound.{Sound, Begun, Ready, Kept, Pumping, stepIs, after, more}
+use Rattle.job.specs.Sound.{Sound, Begun, Ready, Kept, Pumping, stepIs, after, more, starting, room}
 use Rattle.job.specs.Read.{cutInto}
 use Rattle.job.proofs.Ending.{begun-length}
 use Rattle.job.proofs.Flow.{line-turn, more-turn}
@@ -37,16 +37,16 @@ module _ (st : State) (at from : ℕ) (piece line : List ℕ) (fresh : State) (e
   nothing : m .state .have ≡ 0
   nothing = kept .have ∙ ap (λ (s : State). s .have) e
 
-  pub done-with : (next : ℕ) → m .state .lines + from ≤ st .lines + next → next ≤ length piece → (from < length piece → from < next) → Pumping st at from (length piece) line (record { moved = m; next = next })
+  pub done-with : (out next : ℕ) → m .state .lines + from ≤ st .lines + next → next ≤ length piece → from ≤ next → at + room ≤ out → Pumping st from (length piece) line out (record { moved = m; next = next })
   unfolding until
-  done-with next h g on = record {
+  done-with out next h g back fits = record {
     sound = kept .sound;
     begun = record { short = omega (arith, nothing); unended = rw nothing refl };
-    lines = omega (arith, kept .lines, ap (λ (s : State). s .lines) e);
+    lines = h;
     counted = omega (arith, nothing);
-    room = kept .room;
+    room = omega (arith, kept .room);
+    back = back;
     within = g;
-    on = on;
   }
 
   pub answered : (o line₀ densities densities′ printed : List ℕ) (len next : ℕ) → Begun len line → take (st .have) line₀ ++ drop from piece ≡ take len line ++ (10 ∷ drop next piece) → stepIs (m .going) o (standOf (m .state) densities′) ≡ after printed (lineStep (standOf fresh densities) (take len line)) → (later : List ℕ) → printed ++ jobFrom (standOf st densities) (take (st .have) line₀ ++ (drop from piece ++ later)) ≡ o ++ more (m .going) (jobFrom (standOf (m .state) densities′) (take (m .state .have) line ++ (drop next piece ++ later)))
@@ -57,17 +57,17 @@ module _ (st : State) (at from : ℕ) (piece line : List ℕ) (fresh : State) (e
 
 -- the piece is used up
 module _ (st st′ : State) (at from : ℕ) (piece line₀ line : List ℕ) (len : ℕ) (e : st′ ≡ with st len) (b : Begun len line) (same : take (st .have) line₀ ++ drop from piece ≡ take len line) where
-  pub used-up : Sound st → from ≤ length piece → Pumping st at from (length piece) line (record { moved = record { state = st′; at = at; going = true }; next = length piece })
-  used-up s h =
-      subst (λ (u : State). Pumping st at from (length piece) line (record { moved = record { state = u; at = at; going = true }; next = length piece })) (sym e)
+  pub used-up : (out : ℕ) → Sound st → from ≤ length piece → at ≤ out → Pumping st from (length piece) line out (starting st′ at (length piece))
+  used-up out s h fits =
+      subst (λ (u : State). Pumping st from (length piece) line out (starting u at (length piece))) (sym e)
       (record {
         sound = sound-with st len refl s;
         begun = b;
         lines = omega arith;
         counted = omega (arith, begun-length len line b, ap length same, length-append (take (st .have) line₀) (drop from piece), length-take (st .have) line₀, length-drop from piece);
-        room = omega arith;
+        room = fits;
+        back = h;
         within = omega arith;
-        on = λ g. g;
       })
 
   pub goes-on : (densities printed later : List ℕ) → printed ++ jobFrom (standOf st densities) (take (st .have) line₀ ++ (drop from piece ++ later)) ≡ printed ++ jobFrom (standOf st′ densities) (take (st′ .have) line ++ (drop (length piece) piece ++ later))

@@ -1,9 +1,10 @@
 -- What the job keeps true of its state and asks of what it is lent. Definitions only. Assumes nothing.
-use Prim.Native.Nat.{ℕ, _+_, _*_, _^_, _≤_, _<_}
-use mathlib.Core.Bool.{Bool, true, false}
+use Prim.Native.Nat.{ℕ, _+_, _-_, _*_, _^_, _≤_, _<_}
+use mathlib.Core.Bool.{Bool, true, false, _&&_}
 use mathlib.Core.List.{List, [], _++_}
 use mathlib.Core.Path.{_≡_}
-use lib.ListN.{take}
+use lib.Dec.{ltb, leb}
+use lib.ListN.{take, drop}
 use Rattle.axis.specs.Codes.{bench, first}
 use Rattle.ray.specs.declared.Grid.{Grid}
 use Rattle.ray.specs.Length.{volume, count}
@@ -12,8 +13,9 @@ use Rattle.text.specs.Split.{until}
 use Rattle.job.specs.declared.state.State.{State}
 use Rattle.job.specs.declared.state.Moved.{Moved}
 use Rattle.job.specs.declared.step.Pumped.{Pumped}
-use Rattle.job.specs.Stand.{Stand}
+use Rattle.job.specs.Stand.{Stand, standOf}
 use Rattle.job.specs.Line.{Step, goes, stops}
+use Rattle.job.specs.Job.{jobFrom}
 
 -- a grid that the job takes, with all its densities
 pub record Taken (g : Grid) (densities : ℕ) : Type 0 where
@@ -55,15 +57,16 @@ pub record Kept (st : State) (at : ℕ) (m : Moved) : Type 0 where
   pub lines : m .state .lines ≤ st .lines + 1
   pub room : m .at ≤ at + room
 
--- a piece of so many bytes is taken in from `from` on, at least one of them where there is one; `line` is lent
-pub record Pumping (st : State) (at from piece : ℕ) (line : List ℕ) (r : Pumped) : Type 0 where
+-- A piece of so many bytes is taken in from `from` on, `line` is lent, and the output has so many bytes. Each line that is read took a
+-- byte of the piece, and so did each byte that stands of the next line.
+pub record Pumping (st : State) (from piece : ℕ) (line : List ℕ) (out : ℕ) (r : Pumped) : Type 0 where
   pub sound : Sound (r .moved .state)
   pub begun : Begun (r .moved .state .have) line
-  pub lines : r .moved .state .lines ≤ st .lines + 1
+  pub lines : r .moved .state .lines + from ≤ st .lines + r .next
   pub counted : r .moved .state .lines + r .moved .state .have + from ≤ st .lines + st .have + r .next
-  pub room : r .moved .at ≤ at + room
+  pub room : r .moved .at ≤ out
+  pub back : from ≤ r .next
   pub within : r .next ≤ piece
-  pub on : from < piece → from < r .next
 
 -- what a step came to, read off the output and the state behind it
 abbrev pub stepIs : Bool → List ℕ → Stand → Step
@@ -79,3 +82,18 @@ after before (stops o) = stops (before ++ o)
 abbrev pub more : Bool → List ℕ → List ℕ
 more true l = l
 more false l = []
+
+-- the job goes on, and the piece is still to be taken from `from` on
+abbrev pub starting : State → (at from : ℕ) → Pumped
+starting st at from = record { moved = record { state = st; at = at; going = true }; next = from }
+
+-- All that the job prints (RULES 10), seen from one place in it: the bytes that stand in the output, and behind them what it prints from
+-- where it stands on the line that has begun, the rest of the piece, and whatever comes later.
+abbrev pub inAll : Pumped → (line densities out piece later : List ℕ) → List ℕ
+inAll p line densities out piece later =
+    take (p .moved .at) out
+    ++ more (p .moved .going) (jobFrom (standOf (p .moved .state) densities) (take (p .moved .state .have) line ++ (drop (p .next) piece ++ later)))
+
+-- another line can be answered: the job goes on, the piece has bytes left, and an output of so many bytes has room
+abbrev pub another : Pumped → (piece out : ℕ) → Bool
+another p piece out = p .moved .going && (ltb (p .next) piece && leb room (out - p .moved .at))

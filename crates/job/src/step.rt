@@ -1,12 +1,12 @@
-// The job, a line at a time: what the program and the whole job in memory both run.
+// The job, a line at a time.
 ghost use mathlib.Core.Path.{_≡_};
 ghost use mathlib.Core.List.{List, _++_};
 ghost use Prim.Native.Nat.{ℕ, _+_, _^_, _≤_, _<_};
-ghost use lib.ListN.{length, take, drop};
+ghost use lib.ListN.{length, take};
 ghost use Rattle.job.specs.Stand.{standOf};
 ghost use Rattle.job.specs.Line.{lineStep};
 ghost use Rattle.job.specs.Job.{jobFrom};
-ghost use Rattle.job.specs.Sound.{Sound, Begun, Lent, Ready, Kept, Pumping, stepIs, after, more, room};
+ghost use Rattle.job.specs.Sound.{Sound, Begun, Lent, Ready, Kept, Pumping, stepIs, after, starting, inAll, room};
 use crate::cut::Cut;
 use crate::cut::cut_line;
 use crate::dens::take_dens;
@@ -60,8 +60,8 @@ pub fn pump(
     at: usize,
 ) -> Pumped
     requires { ⌜ Sound st × Begun (st .have) (now line) × Ready st at (length (now out)) × Lent (length (now line)) (length (now densities)) × (from ≤ length (now piece)) ⌝ }
-    ensures { λ r. ⌜ Pumping st at from (length (now (piece .entry))) (now (line .exit)) r ⌝ }
-    ensures { λ r. ⌜ ((later : List ℕ) → take at (now (out .entry)) ++ jobFrom (standOf st (now (densities .entry))) (take (st .have) (now (line .entry)) ++ (drop from (now (piece .entry)) ++ later)) ≡ take (r .moved .at) (now (out .exit)) ++ more (r .moved .going) (jobFrom (standOf (r .moved .state) (now (densities .exit))) (take (r .moved .state .have) (now (line .exit)) ++ (drop (r .next) (now (piece .entry)) ++ later)))) ⌝ }
+    ensures { λ r. ⌜ Pumping st from (length (now (piece .entry))) (now (line .exit)) (length (now (out .entry))) r × (from < length (now (piece .entry)) → from < r .next) ⌝ }
+    ensures { λ r. ⌜ ((later : List ℕ) → inAll (starting st at from) (now (line .entry)) (now (densities .entry)) (now (out .entry)) (now (piece .entry)) later ≡ inAll r (now (line .exit)) (now (densities .exit)) (now (out .exit)) (now (piece .entry)) later) ⌝ }
 {
     let have = st.have;
     let end = piece.len();

@@ -5,9 +5,9 @@ ghost use lib.ListN.{length, take};
 ghost use Rattle.job.specs.Job.{jobOf};
 ghost use Rattle.job.specs.Sound.{Lent, room};
 ghost use Rattle.job.specs.Read.{written};
+use crate::feed::feed;
 use crate::state::State;
 use crate::step::finish;
-use crate::step::pump;
 use text::put::put_bytes;
 
 // What writing the job's output came to: all of it, so many bytes, or the room did not suffice.
@@ -16,8 +16,8 @@ pub enum Written {
     Short,
 }
 
-// The job's output goes line by line through `answer`, so that it is known to fit before it is put
-// behind the rest.
+// The job's output goes through `answer`, so that it is known to fit before it is put behind the
+// rest.
 fn run(
     input: &[u8],
     line: &mut [u8],
@@ -33,7 +33,7 @@ fn run(
     let mut next: usize = 0;
     let mut to: usize = 0;
     while next < input.len() {
-        let p = pump(st, line, input, next, densities, answer, 0);
+        let p = feed(st, line, input, next, densities, answer);
         let m = p.moved;
         let n = m.at;
         if out.len() - to < n {

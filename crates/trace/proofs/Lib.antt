@@ -1,2 +1,2 @@
 -- Laws of the program.
-pub mod Fed
+pub mod Draining

@@ -1,2 +1,2 @@
 -- What the program's functions say to each other.
-pub mod Feeding
+pub mod Behind

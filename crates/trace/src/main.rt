@@ -1,21 +1,35 @@
 // The text job on standard input and standard output, in constant memory: a piece of the input at a
-// time, and answers collected until little room is left.
-ghost use mathlib.Core.Path.{_≡_};
+// time.
+//
+// What is promised ends where bytes leave memory: `feed` fixes every byte of out[..at], and `drain`
+// that the job goes on right behind the piece. That out[..at] is what is written, each time and in
+// this order, no contract can say; compare/jobs.py compares it.
 ghost use Prim.Native.Nat.{_+_, _^_, _≤_, _<_};
+ghost use mathlib.Core.Bool.{true};
+ghost use mathlib.Core.Path.{_≡_};
 ghost use lib.ListN.{length};
 ghost use Rattle.job.specs.Sound.{Sound, Begun, Lent, room};
-ghost use Rattle.trace.specs.Feeding.{Fed};
+ghost use Rattle.trace.specs.Behind.{drained, standing};
+use job::feed::feed;
 use job::state::Moved;
 use job::state::State;
-use job::step::ROOM;
 use job::step::finish;
-use job::step::pump;
 use libc::STDERR_FILENO;
 use libc::STDIN_FILENO;
 use libc::STDOUT_FILENO;
 
 // Lines have numbers of 64 bits, and a piece of 65536 bytes has at most as many lines.
 const LINES_MAX: u64 = 18446744073709420544;
+
+// Where the job stands behind a piece of the input; or that it is over.
+pub enum Drained {
+    On(State),
+    Over,
+}
+
+fn tell(why: &[u8]) {
+    io::write_all(STDERR_FILENO, why);
+}
 
 // Writes the first `at` bytes of out, and tells where that fails.
 fn flush(out: &[u8], at: usize) -> bool
@@ -24,69 +38,69 @@ fn flush(out: &[u8], at: usize) -> bool
     if io::write_all(STDOUT_FILENO, &out[..at]) {
         return true;
     }
-    io::write_all(STDERR_FILENO, b"trace: cannot write to standard output\n");
+    tell(b"trace: cannot write to standard output\n");
     false
 }
 
-// The job cannot go on: writes what is answered, and tells why.
-fn give_up(out: &[u8], at: usize, why: &[u8])
-    requires { ⌜ at ≤ length (now out) ⌝ }
+// Writes what is answered. The job goes on unless it has stopped or the write failed.
+fn sent(m: Moved, out: &[u8]) -> bool
+    requires { ⌜ m .at ≤ length (now out) ⌝ }
+    ensures { λ r. ⌜ (r ≡ true → m .going ≡ true) ⌝ }
 {
-    flush(out, at);
-    io::write_all(STDERR_FILENO, why);
-}
-
-// Where out has no room for another line's answer, writes what it holds. A failed write stops the job.
-fn spill(m: Moved, out: &[u8]) -> Moved
-    requires { ⌜ (m .at ≤ length (now out)) × (room ≤ length (now out)) ⌝ }
-    ensures { λ r. ⌜ (r .state ≡ m .state) × (r .at + room ≤ length (now (out .entry))) ⌝ }
-{
-    let state = m.state;
-    if out.len() - m.at < ROOM {
-        if flush(out, m.at) {
-            return Moved {
-                state,
-                at: 0,
-                going: m.going,
-            };
-        }
-        return Moved {
-            state,
-            at: 0,
-            going: false,
-        };
+    if flush(out, m.at) {
+        return m.going;
     }
-    m
+    false
 }
 
-// Answers the lines that end in a piece of the input.
-fn feed(
-    st: State,
-    line: &mut [u8],
-    piece: &[u8],
-    densities: &mut [u16],
-    out: &mut [u8],
-    at: usize,
-) -> Moved
+// Answers a piece of the input, and writes the answers.
+fn drain(st: State, line: &mut [u8], piece: &[u8], densities: &mut [u16], out: &mut [u8]) -> Drained
     requires { ⌜ Sound st × Begun (st .have) (now line) × Lent (length (now line)) (length (now densities)) ⌝ }
-    requires { ⌜ (at + room ≤ length (now out)) × (st .lines + length (now piece) < 2 ^ 64) ⌝ }
-    ensures { λ r. ⌜ Fed (st .lines + length (now (piece .entry))) (now (line .exit)) (length (now (out .entry))) r ⌝ }
+    requires { ⌜ (room ≤ length (now out)) × (st .lines + length (now piece) < 2 ^ 64) ⌝ }
+    ensures { λ r. ⌜ drained r st (now (line .entry)) (now (densities .entry)) (now (piece .entry)) (now (line .exit)) (now (densities .exit)) ⌝ }
 {
-    let mut m = Moved {
-        state: st,
-        at,
-        going: true,
-    };
+    let mut here = st;
     let mut next: usize = 0;
     while next < piece.len() {
-        let p = pump(m.state, line, piece, next, densities, out, m.at);
-        m = spill(p.moved, out);
-        if !m.going {
-            return m;
+        let p = feed(here, line, piece, next, densities, out);
+        let m = p.moved;
+        if !sent(m, out) {
+            return Drained::Over;
         }
+        here = m.state;
         next = p.next;
     }
-    m
+    Drained::On(here)
+}
+
+// Reads a piece of the input and answers it, or answers the end of the input.
+fn turn(
+    st: State,
+    input: &mut [u8],
+    line: &mut [u8],
+    densities: &mut [u16],
+    out: &mut [u8],
+) -> Drained
+    requires { ⌜ Sound st × Begun (st .have) (now line) × Lent (length (now line)) (length (now densities)) ⌝ }
+    requires { ⌜ (length (now input) ≤ 65536) × (room ≤ length (now out)) ⌝ }
+    ensures { λ r. ⌜ standing r (now (line .exit)) ⌝ }
+{
+    if LINES_MAX < st.lines {
+        tell(b"trace: more lines than can be numbered\n");
+        return Drained::Over;
+    }
+    let got = libc::read(STDIN_FILENO, input);
+    if got < 0 {
+        tell(b"trace: cannot read standard input\n");
+        return Drained::Over;
+    }
+    let n = io::count(got, input);
+    if n == 0 {
+        let end = finish(st, out, 0);
+        flush(out, end);
+        return Drained::Over;
+    }
+    drain(st, line, &input[..n], densities, out)
 }
 
 // A proved loop has to end, and nothing says that the input does: `reads` falls from a number that
@@ -95,37 +109,17 @@ fn serve(input: &mut [u8], line: &mut [u8], densities: &mut [u16], out: &mut [u8
     requires { ⌜ Lent (length (now line)) (length (now densities)) ⌝ }
     requires { ⌜ (length (now input) ≤ 65536) × (room ≤ length (now out)) ⌝ }
 {
-    let mut m = Moved {
-        state: State::new(),
-        at: 0,
-        going: true,
-    };
+    let mut st = State::new();
     let mut reads: u64 = 18446744073709551615;
     while 0 < reads {
         reads -= 1;
-        let got = libc::read(STDIN_FILENO, input);
-        if got < 0 {
-            give_up(out, m.at, b"trace: cannot read standard input\n");
+        let drained = turn(st, input, line, densities, out);
+        let Drained::On(next) = drained else {
             return;
-        }
-        let n = io::count(got, input);
-        if n == 0 {
-            let end = finish(m.state, out, m.at);
-            flush(out, end);
-            return;
-        }
-        m = feed(m.state, line, &input[..n], densities, out, m.at);
-        if !m.going {
-            flush(out, m.at);
-            return;
-        }
-        let lines = m.state.lines;
-        if LINES_MAX < lines {
-            give_up(out, m.at, b"trace: more lines than can be numbered\n");
-            return;
-        }
+        };
+        st = next;
     }
-    give_up(out, m.at, b"trace: more input than can be counted\n");
+    tell(b"trace: more input than can be counted\n");
 }
 
 fn main() {

@@ -89,7 +89,7 @@ returns c =
     let w = as-cut (take (a .st .have) (a .line .now)) (a .piece .now) (a .from) (parted .last .0) (v .1) (parted .ensures) in
     let fresh = c .before .before .before .before .before .before .before .before .begun in
     let m = c .before .before .before .before .take-line in (
-      done-with (a .st) (a .at) (a .from) (a .piece .now) (parted .last .0) (fresh .result) (fresh .ensures) (m .result) (m .ensures .0) (v .0 .1 .0) (omega (arith, m .ensures .0 .lines, ap (λ (t : State). t .lines) (fresh .ensures), w .2)) (w .3) (λ h. w .2),
+      (done-with (a .st) (a .at) (a .from) (a .piece .now) (parted .last .0) (fresh .result) (fresh .ensures) (m .result) (m .ensures .0) (length (a .out .now)) (v .0 .1 .0) (omega (arith, m .ensures .0 .lines, ap (λ (t : State). t .lines) (fresh .ensures), w .2)) (w .3) (omega (arith, w .2)) (s .pre .2 .room), λ h. w .2),
       answered (a .st) (a .at) (a .from) (a .piece .now) (parted .last .0) (fresh .result) (fresh .ensures) (m .result) (m .ensures .0) (take (m .result .at) (m .last .1 .1 .1 .0)) (a .line .now) (a .densities .now) (m .last .1 .1 .0) (take (a .at) (a .out .now)) (v .0 .0) (v .0 .1 .0) (w .0) (w .1) (m .ensures .1),
     )
 
@@ -104,7 +104,7 @@ returns-2 c =
     let v = c .before .before .part2 .given in
     let w = as-cut (take (a .st .have) (a .line .now)) (a .piece .now) (a .from) (parted .last .0) (v .1) (parted .ensures) in
     let st = c .begun2 in (
-      used-up (a .st) (st .result) (a .at) (a .from) (a .piece .now) (a .line .now) (parted .last .0) (v .0 .0) (st .ensures) (w .0) (w .1) (s .pre .0) (s .pre .4),
+      (used-up (a .st) (st .result) (a .at) (a .from) (a .piece .now) (a .line .now) (parted .last .0) (v .0 .0) (st .ensures) (w .0) (w .1) (length (a .out .now)) (s .pre .0) (s .pre .4) (omega (arith, s .pre .2 .room)), λ h. h),
       goes-on (a .st) (st .result) (a .at) (a .from) (a .piece .now) (a .line .now) (parted .last .0) (v .0 .0) (st .ensures) (w .0) (w .1) (a .densities .now) (take (a .at) (a .out .now)),
     )
 
@@ -123,7 +123,7 @@ returns-3 c =
     let w = as-cut (take (a .st .have) (a .line .now)) (a .piece .now) (a .from) (parted .last .0) (v .1) (parted .ensures) in
     let fresh = c .before .before .before .before .begun3 in
     let no = c .before .before .refuse in (
-      done-with (a .st) (a .at) (a .from) (a .piece .now) (parted .last .0) (fresh .result) (fresh .ensures) (no .result) (no .ensures .0 .2) (length (a .piece .now)) (omega (arith, ap (λ (t : State). t .lines) (no .ensures .0 .0 ∙ fresh .ensures), s .pre .4)) (omega arith) (λ h. h),
+      (done-with (a .st) (a .at) (a .from) (a .piece .now) (parted .last .0) (fresh .result) (fresh .ensures) (no .result) (no .ensures .0 .2) (length (a .out .now)) (length (a .piece .now)) (omega (arith, ap (λ (t : State). t .lines) (no .ensures .0 .0 ∙ fresh .ensures), s .pre .4)) (omega arith) (s .pre .4) (s .pre .2 .room), λ h. h),
       λ later. long-turn (take (a .st .have) (a .line .now)) (drop (a .from) (a .piece .now)) later (standOf (a .st) (a .densities .now)) (take (a .at) (a .out .now)) _ w (no .ensures .0 .1) (no .ensures .1 ∙ ap (λ (t : State). take (a .at) (a .out .now) ++ badLine (t .lines) 20) (fresh .ensures)),
     )
 

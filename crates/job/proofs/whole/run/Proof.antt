@@ -28,26 +28,26 @@ loop-holds c =
     let new = c .new in
     (refl, refl, refl, refl, run-begins (a .input .now) (a .line .now) (a .densities .now) (a .out .now) (new .result) (new .ensures .0 (a .densities .now)) (new .ensures .1 .0) (new .ensures .1 .1))
 
-pump-requires : tie.Need-pump-requires Inv-loop μ-loop
-pump-requires c κs =
+feed-requires : tie.Need-feed-requires Inv-loop μ-loop
+feed-requires c κs =
     let l = c .before .before .before .before in
     let s = c .before .before .before .before .before .before .before .before .before .before .before in
     let a = s .args in
     let o = l .loop in
     let r = o .inv .4 in
-    (r .sound, r .begun, record { room = omega (arith, o .inv .2, s .pre .1); number = omega (arith, r .counted) }, record { line = omega (arith, o .inv .0, s .pre .0 .line); densities = omega (arith, o .inv .1, s .pre .0 .densities) }, r .within)
+    ((r .sound, r .begun, record { line = omega (arith, o .inv .0, s .pre .0 .line); densities = omega (arith, o .inv .1, s .pre .0 .densities) }), (omega (arith, o .inv .2, s .pre .1), r .within, omega (arith, r .counted)))
 
 sub-if1 : tie.Need-sub-if1 Inv-loop μ-loop
 sub-if1 c = c .before .before .before .before .before .before .before .before .before .before .before .before .loop .inv .4 .room
 
 same-length : tie.Need-same-length Inv-loop μ-loop
-same-length c = c .before .before .before .before .before .before .before .before .pump .kept .1 .0 ∙ c .before .before .before .before .before .before .before .before .before .before .before .before .before .loop .inv .0
+same-length c = c .before .before .before .before .before .before .before .before .feed .kept .1 .0 ∙ c .before .before .before .before .before .before .before .before .before .before .before .before .before .loop .inv .0
 
 same-length-2 : tie.Need-same-length-2 Inv-loop μ-loop
-same-length-2 c = c .before .before .before .before .before .before .before .before .pump .kept .1 .1 .1 .1 .0 ∙ c .before .before .before .before .before .before .before .before .before .before .before .before .before .loop .inv .1
+same-length-2 c = c .before .before .before .before .before .before .before .before .feed .kept .1 .1 .1 .1 .0 ∙ c .before .before .before .before .before .before .before .before .before .before .before .before .before .loop .inv .1
 
 same-length-3 : tie.Need-same-length-3 Inv-loop μ-loop
-same-length-3 c = c .before .before .before .before .before .before .before .before .pump .kept .1 .1 .1 .1 .1 .0 ∙ c .before .before .before .before .before .before .before .before .before .before .before .before .before .loop .inv .2
+same-length-3 c = c .before .before .before .before .before .before .before .before .feed .kept .1 .1 .1 .1 .1 .0 ∙ c .before .before .before .before .before .before .before .before .before .before .before .before .before .loop .inv .2
 
 same-length-4 : tie.Need-same-length-4 Inv-loop μ-loop
 same-length-4 c = c .before .before .before .before .before .before .before .before .before .before .before .before .before .loop .inv .3
@@ -58,10 +58,10 @@ returns c =
     let s = c .before .before .before .before .before .before .before .before .before .before .before .before .before .before .before .before .before .before .before .before in
     let a = s .args in
     let o = l .loop in
-    let p = c .before .before .before .before .before .before .before .before .pump in
+    let p = c .before .before .before .before .before .before .before .before .feed in
     let answer = p .last .1 .1 .1 .1 .1 .0 in
     let n = p .result .moved .at in
-    let sized : length (take n answer) ≡ n = answer-length n answer (p .ensures .0 .room) (p .kept .1 .1 .1 .1 .1 .0) (o .inv .2) (s .pre .1) in
+    let sized : length (take n answer) ≡ n = answer-length n answer (p .ensures .0 .0 .room) (p .kept .1 .1 .1 .1 .1 .0) in
     let turn = none-later (take n answer) (p .result .moved .going) (a .input .now) (o .line) (p .last .1 .0) (standOf (o .st) (o .densities)) (standOf (p .result .moved .state) (p .last .1 .1 .1 .1 .0)) (o .st .have) (o .next) (p .result .moved .state .have) (p .result .next) (p .ensures .1) in
     let rest = more (p .result .moved .going) (jobFrom (standOf (p .result .moved .state) (p .last .1 .1 .1 .1 .0)) (take (p .result .moved .state .have) (p .last .1 .0) ++ drop (p .result .next) (a .input .now))) in
     run-short (o .inv .4) (take n answer) rest turn (o .out) (length (a .out .now)) (o .inv .3) (omega (arith, o .inv .3))
@@ -70,31 +70,31 @@ slice-reshare-prefix-put-bytes : tie.Need-slice-reshare-prefix-put-bytes Inv-loo
 slice-reshare-prefix-put-bytes c =
     let s = c .before .before .before .before .before .before .before .before .before .before .before .before .before .before .before .before .before .before .before .before .before in
     let o = c .before .before .before .before .before .before .before .before .before .before .before .before .before .before .loop in
-    let p = c .before .before .before .before .before .before .before .before .before .pump in
-    omega (arith, p .ensures .0 .room, p .kept .1 .1 .1 .1 .1 .0, o .inv .2, s .pre .1)
+    let p = c .before .before .before .before .before .before .before .before .before .feed in
+    omega (arith, p .ensures .0 .0 .room, p .kept .1 .1 .1 .1 .1 .0, o .inv .2, s .pre .1)
 
 slice-aggregate-put-bytes : tie.Need-slice-aggregate-put-bytes Inv-loop μ-loop
 slice-aggregate-put-bytes c =
     let s = c .before .before .before .before .before .before .before .before .before .before .before .before .before .before .before .before .before .before .before .before .before .before in
     let o = c .before .before .before .before .before .before .before .before .before .before .before .before .before .before .before .loop in
-    let p = c .before .before .before .before .before .before .before .before .before .before .pump in
-    sym (answer-length _ _ (p .ensures .0 .room) (p .kept .1 .1 .1 .1 .1 .0) (o .inv .2) (s .pre .1))
+    let p = c .before .before .before .before .before .before .before .before .before .before .feed in
+    sym (answer-length _ _ (p .ensures .0 .0 .room) (p .kept .1 .1 .1 .1 .1 .0))
 
 put-bytes-requires : tie.Need-put-bytes-requires Inv-loop μ-loop
 put-bytes-requires c κs =
     let s = c .before .before .before .before .before .before .before .before .before .before .before .before .before .before .before .before .before .before .before .before .before .before in
     let o = c .before .before .before .before .before .before .before .before .before .before .before .before .before .before .before .loop in
-    let p = c .before .before .before .before .before .before .before .before .before .before .pump in
-    omega (arith, o .inv .4 .room, answer-length (p .result .moved .at) (p .last .1 .1 .1 .1 .1 .0) (p .ensures .0 .room) (p .kept .1 .1 .1 .1 .1 .0) (o .inv .2) (s .pre .1))
+    let p = c .before .before .before .before .before .before .before .before .before .before .feed in
+    omega (arith, o .inv .4 .room, answer-length (p .result .moved .at) (p .last .1 .1 .1 .1 .1 .0) (p .ensures .0 .0 .room) (p .kept .1 .1 .1 .1 .1 .0))
 
 same-length-5 : tie.Need-same-length-5 Inv-loop μ-loop
-same-length-5 c = c .before .before .before .before .before .before .before .before .before .before .before .before .before .before .before .pump .kept .1 .0 ∙ c .before .before .before .before .before .before .before .before .before .before .before .before .before .before .before .before .before .before .before .before .loop .inv .0
+same-length-5 c = c .before .before .before .before .before .before .before .before .before .before .before .before .before .before .before .feed .kept .1 .0 ∙ c .before .before .before .before .before .before .before .before .before .before .before .before .before .before .before .before .before .before .before .before .loop .inv .0
 
 same-length-6 : tie.Need-same-length-6 Inv-loop μ-loop
-same-length-6 c = c .before .before .before .before .before .before .before .before .before .before .before .before .before .before .before .pump .kept .1 .1 .1 .1 .0 ∙ c .before .before .before .before .before .before .before .before .before .before .before .before .before .before .before .before .before .before .before .before .loop .inv .1
+same-length-6 c = c .before .before .before .before .before .before .before .before .before .before .before .before .before .before .before .feed .kept .1 .1 .1 .1 .0 ∙ c .before .before .before .before .before .before .before .before .before .before .before .before .before .before .before .before .before .before .before .before .loop .inv .1
 
 same-length-7 : tie.Need-same-length-7 Inv-loop μ-loop
-same-length-7 c = c .before .before .before .before .before .before .before .before .before .before .before .before .before .before .before .pump .kept .1 .1 .1 .1 .1 .0 ∙ c .before .before .before .before .before .before .before .before .before .before .before .before .before .before .before .before .before .before .before .before .loop .inv .2
+same-length-7 c = c .before .before .before .before .before .before .before .before .before .before .before .before .before .before .before .feed .kept .1 .1 .1 .1 .1 .0 ∙ c .before .before .before .before .before .before .before .before .before .before .before .before .before .before .before .before .before .before .before .before .loop .inv .2
 
 same-length-8 : tie.Need-same-length-8 Inv-loop μ-loop
 same-length-8 c = c .before .before .before .before .put-bytes .kept .0 ∙ c .before .before .before .before .before .before .before .before .before .before .before .before .before .before .before .before .before .before .before .before .loop .inv .3
@@ -105,10 +105,10 @@ returns-2 c =
     let s = c .before .before .before .before .before .before .before .before .before .before .before .before .before .before .before .before .before .before .before .before .before .before .before .before .before .before .before in
     let a = s .args in
     let o = l .loop in
-    let p = c .before .before .before .before .before .before .before .before .before .before .before .before .before .before .before .pump in
+    let p = c .before .before .before .before .before .before .before .before .before .before .before .before .before .before .before .feed in
     let answer = p .last .1 .1 .1 .1 .1 .0 in
     let n = p .result .moved .at in
-    let sized : length (take n answer) ≡ n = answer-length n answer (p .ensures .0 .room) (p .kept .1 .1 .1 .1 .1 .0) (o .inv .2) (s .pre .1) in
+    let sized : length (take n answer) ≡ n = answer-length n answer (p .ensures .0 .0 .room) (p .kept .1 .1 .1 .1 .1 .0) in
     let turn = none-later (take n answer) (p .result .moved .going) (a .input .now) (o .line) (p .last .1 .0) (standOf (o .st) (o .densities)) (standOf (p .result .moved .state) (p .last .1 .1 .1 .1 .0)) (o .st .have) (o .next) (p .result .moved .state .have) (p .result .next) (p .ensures .1) in
     let rest = more (p .result .moved .going) (jobFrom (standOf (p .result .moved .state) (p .last .1 .1 .1 .1 .0)) (take (p .result .moved .state .have) (p .last .1 .0) ++ drop (p .result .next) (a .input .now))) in
     let put = c .before .before .before .before .put-bytes in
@@ -120,8 +120,8 @@ returns-2 c =
 
 loop-less : tie.Need-loop-less Inv-loop μ-loop
 loop-less c =
-    let p = c .before .before .before .before .before .before .before .before .before .before .before .before .before .before .before .before .pump in
-    omega (arith, p .ensures .0 .on (c .before .before .before .before .before .before .before .before .before .before .before .before .before .before .before .before .before .before .before .before .loop-test .taken), p .ensures .0 .within)
+    let p = c .before .before .before .before .before .before .before .before .before .before .before .before .before .before .before .before .feed in
+    omega (arith, p .ensures .0 .1 (c .before .before .before .before .before .before .before .before .before .before .before .before .before .before .before .before .before .before .before .before .loop-test .taken), p .ensures .0 .0 .within)
 
 loop-again : tie.Need-loop-again Inv-loop μ-loop
 loop-again c =
@@ -129,10 +129,10 @@ loop-again c =
     let s = c .before .before .before .before .before .before .before .before .before .before .before .before .before .before .before .before .before .before .before .before .before .before .before .before .before .before .before .before in
     let a = s .args in
     let o = l .loop in
-    let p = c .before .before .before .before .before .before .before .before .before .before .before .before .before .before .before .before .pump in
+    let p = c .before .before .before .before .before .before .before .before .before .before .before .before .before .before .before .before .feed in
     let answer = p .last .1 .1 .1 .1 .1 .0 in
     let n = p .result .moved .at in
-    let sized : length (take n answer) ≡ n = answer-length n answer (p .ensures .0 .room) (p .kept .1 .1 .1 .1 .1 .0) (o .inv .2) (s .pre .1) in
+    let sized : length (take n answer) ≡ n = answer-length n answer (p .ensures .0 .0 .room) (p .kept .1 .1 .1 .1 .1 .0) in
     let turn = none-later (take n answer) (p .result .moved .going) (a .input .now) (o .line) (p .last .1 .0) (standOf (o .st) (o .densities)) (standOf (p .result .moved .state) (p .last .1 .1 .1 .1 .0)) (o .st .have) (o .next) (p .result .moved .state .have) (p .result .next) (p .ensures .1) in
     let rest = more (p .result .moved .going) (jobFrom (standOf (p .result .moved .state) (p .last .1 .1 .1 .1 .0)) (take (p .result .moved .state .have) (p .last .1 .0) ++ drop (p .result .next) (a .input .now))) in
     let put = c .before .before .before .before .before .put-bytes in
@@ -144,7 +144,7 @@ loop-again c =
       p .kept .1 .1 .1 .1 .0 ∙ o .inv .1,
       p .kept .1 .1 .1 .1 .1 .0 ∙ o .inv .2,
       put .kept .0 ∙ o .inv .3,
-      run-on (o .inv .4) (take n answer) rest turn (put .last .0) (put .result) (put .ensures .1) fits (p .last .1 .0) (p .last .1 .1 .1 .1 .0) (p .result) (p .ensures .0) on,
+      run-on (o .inv .4) (take n answer) rest turn (put .last .0) (put .result) (put .ensures .1) fits (p .last .1 .0) (p .last .1 .1 .1 .1 .0) (p .result) (p .ensures .0 .0) on,
     )
 
 finish-requires : tie.Need-finish-requires Inv-loop μ-loop
@@ -180,7 +180,7 @@ returns-3 c =
     let f = c .before .before .before .finish in
     let answer = f .last .1 .0 in
     let n = f .result in
-    let sized : length (take n answer) ≡ n = answer-length n answer (f .ensures .0) (f .kept .1 .0) (o .inv .2) (s .pre .1) in
+    let sized : length (take n answer) ≡ n = answer-length n answer (omega (arith, f .ensures .0, o .inv .2, s .pre .1)) (f .kept .1 .0) in
     let turn = nothing-left (o .inv .4) (omega (arith, c .before .before .before .before .before .loop-test .left)) (f .ensures .1 (o .line) (o .densities) (o .inv .4 .begun)) in
     run-short (o .inv .4) (take n answer) [] turn (o .out) (length (a .out .now)) (o .inv .3) (omega (arith, o .inv .3))
 
@@ -193,7 +193,7 @@ slice-reshare-prefix-put-bytes-2 c =
     let f = c .before .before .before .before .finish in
     let answer = f .last .1 .0 in
     let n = f .result in
-    let sized : length (take n answer) ≡ n = answer-length n answer (f .ensures .0) (f .kept .1 .0) (o .inv .2) (s .pre .1) in
+    let sized : length (take n answer) ≡ n = answer-length n answer (omega (arith, f .ensures .0, o .inv .2, s .pre .1)) (f .kept .1 .0) in
     omega (arith, f .ensures .0, f .kept .1 .0, o .inv .2, s .pre .1)
 
 slice-aggregate-put-bytes-2 : tie.Need-slice-aggregate-put-bytes-2 Inv-loop μ-loop
@@ -205,7 +205,7 @@ slice-aggregate-put-bytes-2 c =
     let f = c .before .before .before .before .before .finish in
     let answer = f .last .1 .0 in
     let n = f .result in
-    let sized : length (take n answer) ≡ n = answer-length n answer (f .ensures .0) (f .kept .1 .0) (o .inv .2) (s .pre .1) in
+    let sized : length (take n answer) ≡ n = answer-length n answer (omega (arith, f .ensures .0, o .inv .2, s .pre .1)) (f .kept .1 .0) in
     sym sized
 
 put-bytes-requires-2 : tie.Need-put-bytes-requires-2 Inv-loop μ-loop
@@ -217,7 +217,7 @@ put-bytes-requires-2 c κs =
     let f = c .before .before .before .before .before .finish in
     let answer = f .last .1 .0 in
     let n = f .result in
-    let sized : length (take n answer) ≡ n = answer-length n answer (f .ensures .0) (f .kept .1 .0) (o .inv .2) (s .pre .1) in
+    let sized : length (take n answer) ≡ n = answer-length n answer (omega (arith, f .ensures .0, o .inv .2, s .pre .1)) (f .kept .1 .0) in
     omega (arith, o .inv .4 .room)
 
 same-length-13 : tie.Need-same-length-13 Inv-loop μ-loop
@@ -241,7 +241,7 @@ returns-4 c =
     let f = c .before .before .before .before .before .before .before .before .finish in
     let answer = f .last .1 .0 in
     let n = f .result in
-    let sized : length (take n answer) ≡ n = answer-length n answer (f .ensures .0) (f .kept .1 .0) (o .inv .2) (s .pre .1) in
+    let sized : length (take n answer) ≡ n = answer-length n answer (omega (arith, f .ensures .0, o .inv .2, s .pre .1)) (f .kept .1 .0) in
     let turn = nothing-left (o .inv .4) (omega (arith, c .before .before .before .before .before .before .before .before .before .before .loop-test .left)) (f .ensures .1 (o .line) (o .densities) (o .inv .4 .begun)) in
     let put = c .before .before .put-bytes2 in
     let end : put .result ≡ o .to + length (take n answer) = put .ensures .0 in
@@ -257,7 +257,7 @@ run-spec =
     μ-loop
     new-requires
     loop-holds
-    pump-requires
+    feed-requires
     sub-if1
     same-length
     same-length-2

@@ -1,0 +1,71 @@
+-- `figures_job::show` meets its contract: what is written has room. Assumes nothing.
+use mathlib.Core.Path.{sym, _∙_}
+use native.Mathlib.Omega.{arith}
+use lib.ListN.{length}
+use lib.Seq.{length-take-le}
+use Rattle.job.specs.Job.{jobOf}
+use Rattle.job.proofs.Running.{written-fits}
+use borrow.Author.Needs.{needs}
+use Rattle.figures_job.proofs.show.Statement.{statement}
+use Rattle.figures_job.proofs.show.Tie as tie
+
+job-requires : tie.Need-job-requires
+job-requires c κs = search needs
+
+enum-known-wrote : tie.Need-enum-known-wrote
+enum-known-wrote c = search needs
+
+enum-told : tie.Need-enum-told
+enum-told c = search needs
+
+slice-aggregate-write-all : tie.Need-slice-aggregate-write-all
+slice-aggregate-write-all c = search needs
+
+write-all-requires : tie.Need-write-all-requires
+write-all-requires c κs = search needs
+
+same-length : tie.Need-same-length
+same-length c = search needs
+
+returns : tie.Need-returns
+returns c = search needs
+
+slice-reshare-prefix-write-all : tie.Need-slice-reshare-prefix-write-all
+slice-reshare-prefix-write-all c =
+    let a = c .before .before .before .before .before .before .before .before .before .args in
+    let j = c .before .before .before .before .before .job in
+    let v = c .before .wrote .given in
+    omega (arith, written-fits (jobOf (a .input .now)) (length (a .out .now)) (v .0 .0) (sym (j .ensures .0) ∙ v .1), j .kept .1 .0)
+
+slice-aggregate-write-all-2 : tie.Need-slice-aggregate-write-all-2
+slice-aggregate-write-all-2 c =
+    let a = c .before .before .before .before .before .before .before .before .before .before .args in
+    let j = c .before .before .before .before .before .before .job in
+    let v = c .before .before .wrote .given in
+    sym (length-take-le (v .0 .0) (j .last .1 .0) (omega (arith, written-fits (jobOf (a .input .now)) (length (a .out .now)) (v .0 .0) (sym (j .ensures .0) ∙ v .1), j .kept .1 .0)))
+
+write-all-requires-2 : tie.Need-write-all-requires-2
+write-all-requires-2 c κs = search needs
+
+same-length-2 : tie.Need-same-length-2
+same-length-2 c = search needs
+
+returns-2 : tie.Need-returns-2
+returns-2 c = search needs
+
+pub show-spec : {M : Type 1} → statement M
+show-spec =
+    tie.close
+    (tie.spec
+    job-requires
+    enum-known-wrote
+    enum-told
+    slice-aggregate-write-all
+    write-all-requires
+    same-length
+    returns
+    slice-reshare-prefix-write-all
+    slice-aggregate-write-all-2
+    write-all-requires-2
+    same-length-2
+    returns-2)
