@@ -1,4 +1,4 @@
-use mathlib.Core.Path.{sym, _∙_}
+use mathlib.Core.Path.{refl, sym, _∙_}
 use borrow.Author.Needs.{needs}
 use Rattle.axis.proofs.Axis.code.Statement.{statement}
 use Rattle.axis.proofs.Axis.code.Tie as tie
@@ -13,7 +13,7 @@ beyond-requires-2 : tie.Need-beyond-requires-2
 beyond-requires-2 c κs = search needs
 
 returns-2 : tie.Need-returns-2
-returns-2 c = rw (sym (c .before .before .before .beyond .ensures) ∙ c .before .before .if1 .left, sym (c .before .beyond2 .ensures) ∙ c .if2 .taken)
+returns-2 c = rw (sym (c .before .before .before .beyond .ensures) ∙ c .before .before .if1 .left, sym (c .before .beyond2 .ensures) ∙ c .if2 .taken) refl
 
 planes-out-requires : tie.Need-planes-out-requires
 planes-out-requires c κs = search needs

@@ -1,4 +1,4 @@
-use mathlib.Core.Path.{sym, _∙_}
+use mathlib.Core.Path.{refl, sym, _∙_}
 use mir.Syntax.{w32}
 use mir.ValLaws.{toZ-ofZ}
 use borrow.Author.Needs.{needs}
@@ -16,7 +16,7 @@ returns c =
     let s = c .before .before .before in
     let q = rw (toZ-ofZ w32 (s .args .q) (s .fits .q)) at (c .holds2 .ensures) in
     let p = rw (toZ-ofZ w32 (s .args .p) (s .fits .p)) at (sym (c .before .before .holds .ensures) ∙ c .before .if1 .taken) in
-    rw (p, q)
+    rw (p, q) refl
 
 returns-2 : tie.Need-returns-2
 returns-2 c = rw (rw (toZ-ofZ w32 (c .before .before .args .p) (c .before .before .fits .p)) at (sym (c .before .holds .ensures) ∙ c .if1 .left))

@@ -1,9 +1,10 @@
+use mathlib.Core.Path.{refl}
 use borrow.Author.Tests.{lt-ltb, le-ltb}
 use Rattle.walk.proofs.plan.hits.Statement.{statement}
 use Rattle.walk.proofs.plan.hits.Tie as tie
 
 returns : tie.Need-returns
-returns c = rw (lt-ltb _ _ (c .before .before .if1 .taken), c .before .if2 .taken, c .if3 .taken)
+returns c = rw (lt-ltb _ _ (c .before .before .if1 .taken), c .before .if2 .taken, c .if3 .taken) refl
 
 returns-2 : tie.Need-returns-2
 returns-2 c = rw (lt-ltb _ _ (c .before .before .if1 .taken), c .before .if2 .taken, c .if3 .left)

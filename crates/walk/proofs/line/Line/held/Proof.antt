@@ -1,13 +1,14 @@
+use mathlib.Core.Path.{refl}
 use borrow.Author.Tests.{le-leb, lt-leb}
 use Rattle.walk.proofs.Units.{moves, stays}
 use Rattle.walk.proofs.line.Line.held.Statement.{statement}
 use Rattle.walk.proofs.line.Line.held.Tie as tie
 
 returns : tie.Need-returns
-returns c = let a = c .before .before .before .before .before .args .self in rw (stays (a .p) (a .q) (c .before .before .before .if1 .taken), le-leb _ _ (c .before .if2 .taken))
+returns c = let a = c .before .before .before .before .before .args .self in rw (stays (a .p) (a .q) (c .before .before .before .if1 .taken), le-leb _ _ (c .before .if2 .taken)) refl
 
 returns-2 : tie.Need-returns-2
-returns-2 c = let a = c .before .before .before .before .args .self in rw (stays (a .p) (a .q) (c .before .before .if1 .taken), lt-leb _ _ (c .if2 .left))
+returns-2 c = let a = c .before .before .before .before .args .self in rw (stays (a .p) (a .q) (c .before .before .if1 .taken), lt-leb _ _ (c .if2 .left)) refl
 
 returns-3 : tie.Need-returns-3
 returns-3 c = let a = c .before .before .args .self in rw (moves (a .p) (a .q) (c .if1 .left))
