@@ -15,7 +15,7 @@ use Rattle.path.specs.Answer.{answerOf, voxelsAfter, partsAfter}
 use Rattle.place.specs.declared.Mark.{Mark}
 use Rattle.place.specs.declared.Mark.the-variants.{Refused, Miss, Hit}
 use Rattle.place.specs.declared.Points.{Points}
-use Rattle.place.specs.Answers.{pointsOf}
+use Rattle.place.specs.Answers.{markCode, pointsOf}
 
 -- a lent list afterwards: the answer, or, where its length is another, what it held
 abbrev pub put : {A : Type 0} → (new old : List A) → List A
@@ -26,12 +26,6 @@ abbrev pub markOf : Mark → ℕ
 markOf (Refused c) = 0
 markOf Miss = 1
 markOf Hit = 2
-
--- the code: 0 where nothing is refused
-abbrev pub codeIn : Mark → ℕ
-codeIn (Refused c) = c
-codeIn Miss = 0
-codeIn Hit = 0
 
 -- the entering point, then the leaving point
 abbrev pub floatsOf : Points → List Float
@@ -45,6 +39,6 @@ pub record Appended (g : Grid) (r : Ray) (densities voxels parts answer : List �
   pub answer-now : answer′ ≡ put (sixIn (answerOf g r densities (length voxels) (length parts) filled)) answer
 
 pub record Pointed (g : Grid) (r : Ray) (mark : List ℕ) (floats : List Float) (code : ℕ) (mark′ : List ℕ) (floats′ : List Float) : Type 0 where
-  pub code-is : code ≡ codeIn (pointsOf bench g r .mark)
+  pub code-is : code ≡ markCode (pointsOf bench g r .mark)
   pub mark-now : mark′ ≡ put (markOf (pointsOf bench g r .mark) ∷ []) mark
   pub floats-now : floats′ ≡ put (floatsOf (pointsOf bench g r)) floats

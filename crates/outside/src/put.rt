@@ -2,7 +2,8 @@
 ghost use mathlib.Core.Path.{_≡_};
 ghost use mathlib.Core.List.{[], _∷_};
 ghost use Rattle.ilvoresta.proofs.Answered.{sixIn};
-ghost use Rattle.outside.specs.Doors.{put, markOf, codeIn, floatsOf};
+ghost use Rattle.place.specs.Answers.{markCode};
+ghost use Rattle.outside.specs.Doors.{put, markOf, floatsOf};
 use ilvoresta::traced::put_six;
 use path::Trace;
 use place::Mark;
@@ -50,7 +51,7 @@ pub fn put_mark(m: Mark, mark: &mut [u32])
 }
 
 pub fn code_in(m: Mark) -> u32
-    ensures { λ c. ⌜ c ≡ codeIn m ⌝ }
+    ensures { λ c. ⌜ c ≡ markCode m ⌝ }
 {
     match m {
         Mark::Refused(code) => code,

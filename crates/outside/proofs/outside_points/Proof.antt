@@ -3,7 +3,8 @@ use mathlib.Core.Path.{ap, _∙_}
 use mathlib.Core.List.{[], _∷_}
 use Rattle.place.specs.declared.Points.{Points}
 use Rattle.ilvoresta.proofs.Again.{grid-again, ray-again}
-use Rattle.outside.specs.Doors.{put, markOf, codeIn, floatsOf, Pointed}
+use Rattle.place.specs.Answers.{markCode}
+use Rattle.outside.specs.Doors.{put, markOf, floatsOf, Pointed}
 use borrow.Author.Needs.{needs}
 use Rattle.outside.proofs.outside_points.Statement.{statement}
 use Rattle.outside.proofs.outside_points.Tie as tie
@@ -38,10 +39,10 @@ returns c =
     let f = c .before .before .before .before .before .before .before .before .before .before .before .before .before .before .fits in
     let g = c .before .before .before .before .before .before .before .before .before .before .before .grid-of .ensures ∙ grid-again (a .nx) (a .ny) (a .nz) (a .dx) (a .dy) (a .dz) (a .bx) (a .by) (a .bz) (f .bx) (f .by) (f .bz) in
     let r = c .before .before .before .before .before .before .before .before .before .before .ray-of .ensures ∙ ray-again (a .px) (a .py) (a .pz) (a .qx) (a .qy) (a .qz) (f .px) (f .py) (f .pz) (f .qx) (f .qy) (f .qz) in
-    let e = c .before .before .before .before .before .before .before .before .before .points .ensures in
+    let e = c .before .before .before .before .before .before .before .before .before .points .ensures .0 in
     rw (← g, ← r)
     (record {
-      code-is = c .code-in .ensures ∙ ap (λ (u : Points). codeIn (u .mark)) e;
+      code-is = c .code-in .ensures ∙ ap (λ (u : Points). markCode (u .mark)) e;
       mark-now = c .before .before .before .put-mark .ensures ∙ ap (λ (u : Points). put (markOf (u .mark) ∷ []) (a .mark .now)) e;
       floats-now = c .before .before .before .before .before .before .before .put-points .ensures ∙ ap (λ (u : Points). put (floatsOf u) (a .floats .now)) e;
     })
