@@ -69,7 +69,7 @@ def named(tally: Tally) -> None:
         4 + 8 + 4 * 3: "voxels[3]: 1 stated, 0 came",
         4 + 8 + 4 * 8: "byte 1 behind voxels: 200 stated, 201 came",
         52 + 8 + 8 * 5: "parts[5]: 200 stated, 201 came",
-        132 + 8 + 8 * 5: "answer[5], weighted sum: 2100 stated, 2101 came",
+        132 + 8 + 8 * 5: "answer[5], sum: 2100 stated, 2101 came",
     }.items():
         came = bytearray(wanted.memory())
         came[at] ^= 1
