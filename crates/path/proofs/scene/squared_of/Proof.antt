@@ -1,3 +1,4 @@
+use mathlib.Core.Path.{refl}
 use native.Mathlib.Omega.{arith}
 use Rattle.ray.specs.Length.{X, Y, Z}
 use Rattle.walk.proofs.Units.{abs-gap}
@@ -22,7 +23,7 @@ add-result-2 c = record { fits = omega (arith, c .before .before .square .ensure
 returns : tie.Need-returns
 returns c =
     let s = c .before .before .before .args .s in
-    rw (c .before .before .square .ensures .0, c .before .square2 .ensures .0, c .square3 .ensures .0, abs-gap (s .x .p) (s .x .q), abs-gap (s .y .p) (s .y .q), abs-gap (s .z .p) (s .z .q))
+    rw (c .before .before .square .ensures .0, c .before .square2 .ensures .0, c .square3 .ensures .0, abs-gap (s .x .p) (s .x .q), abs-gap (s .y .p) (s .y .q), abs-gap (s .z .p) (s .z .q)) refl
 
 pub squared-of-spec : {M : Type 1} → statement M
 squared-of-spec =
