@@ -4,7 +4,7 @@
 docs/PROMISES.md is held to the letter. What it has in backticks is one of these:
 - a file or folder of a crate, without its ending: `axis/specs/Codes`. Where a colon follows, then up to the next such file, the end of
   the cell or the end of the sentence, each name has to be defined in that very file, and each expression to have a word that is
-- an edit: `axis/must-fail/n_512`. Every edit of the repository is named
+- an edit: `axis/must-fail/n_512`. Every edit of the repository is named, and every law that no other proof uses
 - a public item: `path::calls::trace`, `axis::Axis::code`, `axis::raised`; a C function by its name alone
 - a crate; a path of the repository; a command or an expression, which have spaces
 """
@@ -224,6 +224,13 @@ def edits(source: Source, promises: str) -> Iterator[Found]:
         yield Found(edit in told, 0, edit, "is an edit that is not named here")
 
 
+def laws(source: Source, promises: str) -> Iterator[Found]:
+    """A law that no proof uses is a promise."""
+    told = {(span.words, name) for span in spans(promises) if span.file for name in source.at(span.file)}
+    for law, name in source.unused:
+        yield Found((law, name) in told, 0, law, f"of {name} is used by no proof, and is not named here")
+
+
 # ---- the rules
 
 
@@ -264,7 +271,7 @@ def self_test(source: Source, tally: Tally, promises: str, decisions: str) -> No
     for told, missed in {
         "altered in the promises": silent(lambda text: named(source, text), promises, altered),
         "altered in the decisions": silent(lambda text: [*pathed(source, text), *shapes(source, text)], decisions, altered),
-        "taken out of the promises": silent(lambda text: [*calls(source, text), *edits(source, text)], promises, taken_out),
+        "taken out of the promises": silent(lambda text: [*calls(source, text), *edits(source, text), *laws(source, text)], promises, taken_out),
         "taken out of both": silent(lambda text: called(source, text, text), f"{promises}\n\n{decisions}", taken_out),
     }.items():
         tally.check(not missed, f"{told}, and not told: {missed}")
@@ -290,7 +297,7 @@ def main() -> None:
             look(name, linked(source, name, source.text(name)))
             look(name, pathed(source, source.text(name)) if name != PROMISES else ())
     promises, decisions = source.text(PROMISES), source.text(DECISIONS)
-    for part in (named, calls, edits):
+    for part in (named, calls, edits, laws):
         look(PROMISES, part(source, promises))
     look(PROMISES, called(source, promises, decisions))
     look(DECISIONS, shapes(source, decisions))

@@ -15,6 +15,11 @@ DEFINED = re.compile(
     r"^ *(?:(?:pub|abbrev|unfoldable) )*(?:(?:record|data|module) ([^\s(){}:;,.]+)|([^\s(){}:;,.]+) :(?=\s|$))", re.M
 )
 
+# a law of a proof file, and the words of a proof
+LAW = re.compile(r"^ *pub ([^\s(){}:;,.]+) :(?=\s|$)", re.M)
+RECORD = re.compile(r"^( *)pub record .*\n(?:\1 +.*\n)*", re.M)
+TERM = re.compile(r"[^\s(){}\[\];,.]+")
+
 MODULE = re.compile(r"^pub mod (\w+);$", re.M)
 OWNER = re.compile(r"^(?:pub )?(?:impl|struct|enum) (\w+)")
 ITEM = re.compile(r'^(?P<inner>    )?(?P<pub>pub )?(?P<c>extern "C" )?(?P<kind>fn|struct|enum|const) (?P<name>\w+)')
@@ -103,6 +108,19 @@ class Source:
         if name.endswith(".antt"):
             return {one or other for one, other in DEFINED.findall(self.text(name))}
         return {item.name for item in items(self.text(name), "", "", True)}
+
+    @cached_property
+    def unused(self) -> list[tuple[str, str]]:
+        """The laws that no other proof uses, each with its file."""
+        text = {name: re.sub(r"--.*", "", self.text(name)) for name in self.matching("crates/*.antt", "crates/*.rt")}
+        words = {name: set(TERM.findall(text[name])) for name in text}
+        found = []
+        for name in self.matching("crates/*/proofs/*.antt"):
+            for law in () if name.endswith("/Proof.antt") else LAW.findall(RECORD.sub("", text[name])):
+                inside = re.sub(rf"^ *(?:pub )?{re.escape(law)} (?::|[^=\n]*=(?=\s))", "", text[name], flags=re.M)
+                if law not in TERM.findall(inside) and not any(law in words[other] for other in words if other != name):
+                    found.append((law, name))
+        return found
 
     @cached_property
     def known(self) -> set[str]:

@@ -43,9 +43,6 @@ pub low-pos : (k n : ℕ) → Low k (pos n)
 low-pos zero n = le→leb 0 n (omega arith)
 low-pos (suc k) n = tt
 
-pub shift-negsuc : (k n : ℕ) → Low k (negsuc n) → shift k (negsuc n) ≡ k - suc n
-shift-negsuc k n h = natural-sub k (suc n)
-
 pub shift-is : (k : ℕ) (z : ℤ) → Low k z → z +ℤ pos k ≡ pos (shift k z)
 shift-is k (pos n) h = refl
 shift-is k (negsuc n) h = rw (sub-ge k (suc n) (low-negsuc k n h)) refl

@@ -2,7 +2,7 @@
 use Prim.Native.Nat.{ℕ, zero, suc, _+_, _*_, _≤_, _<_}
 use mathlib.Core.Path.{_≡_, refl, sym, ap, _∙_}
 use mathlib.Core.Bool.{cond}
-use mathlib.Core.List.{List, [], _∷_, _++_, sum}
+use mathlib.Core.List.{List, sum}
 use native.Mathlib.Omega.{arith}
 use native.Mathlib.Decide.{decLt}
 use native.Mathlib.Nat.{mul-add, mul-zero, zero-mul, suc-mul}
@@ -35,9 +35,6 @@ module _ (f : ℕ → ℕ) where
   pub total-zero : (n : ℕ) → ((m : ℕ) → m < n → f m ≡ 0) → total f n ≡ 0
   total-zero n h = total-same f (λ m. 0) n h ∙ total-const 0 n ∙ mul-zero n
 
-  pub total-bound : (c n : ℕ) → ((m : ℕ) → m < n → f m ≤ c) → total f n ≤ n * c
-  total-bound c n h = omega (arith, total-le f (λ m. c) n h, total-const c n)
-
   pub total-times : (c n : ℕ) → total (λ m. c * f m) n ≡ c * total f n
   unfolding total
   total-times c zero = sym (mul-zero c)
@@ -64,8 +61,3 @@ total-without f x (suc n) h = elim (decLt x n) [
 
 abbrev pub sumList : List ℕ → ℕ
 sumList xs = sum _+_ 0 xs
-
-pub sum-snoc : (xs : List ℕ) (x : ℕ) → sumList (xs ++ (x ∷ [])) ≡ sumList xs + x
-unfolding sum
-sum-snoc [] x = omega arith
-sum-snoc (y ∷ ys) x = omega (arith, sum-snoc ys x)

@@ -1,45 +1,23 @@
--- A sum over all voxels is one over the list of those with a part, wherever the others count 0; so the weighted sum is. Assumes nothing.
+-- The weighted sum over all voxels is the sum over the list. Assumes nothing.
 use Prim.Native.Nat.{ℕ, zero, suc, _+_, _*_, _<_}
 use mathlib.Core.Path.{_≡_, refl, sym, ap, _∙_}
-use mathlib.Core.List.{List, [], _∷_, map, sum, List·Memᴰ, List·Memᴰ·head, List·Memᴰ·tail, List·Memᴰ·cases-cons, List·Memᴰ·not-nil}
-use mathlib.Core.Logic.{⊎-elim}
+use mathlib.Core.List.{List, [], _∷_, map, sum, List·Memᴰ, List·Memᴰ·head, List·Memᴰ·tail}
 use native.Mathlib.Omega.{arith}
-use native.Mathlib.Decide.{decLt, ℕ-discrete}
+use native.Mathlib.Decide.{decLt}
 use native.Mathlib.Nat.{zero-mul}
 use lib.Dec.{ltb}
 use lib.ListN.{getD}
 use borrow.Author.Tests.{lt-ltb, le-ltb}
 use Rattle.ray.specs.declared.Ray.{Ray}
 use Rattle.ray.specs.Length.{Volume, count, partOf, insert, listTo, listOf, total, sumOf}
-use Rattle.ray.proofs.Total.{total-zero, without, without-other, without-self, total-without, sumList}
-use Rattle.ray.proofs.Rising.{Rising}
+use Rattle.ray.proofs.Total.{sumList}
 use Rattle.ray.proofs.Insert.{either}
-use Rattle.ray.proofs.Listing.{Listed, starts}
+use Rattle.ray.proofs.Listing.{starts}
 
 pub sum-same : (f g : ℕ → ℕ) (xs : List ℕ) → ((m : ℕ) → List·Memᴰ m xs → f m ≡ g m) → sumList (map f xs) ≡ sumList (map g xs)
 unfolding sum
 sum-same f g [] h = refl
 sum-same f g (x ∷ xs) h = omega (arith, h x (List·Memᴰ·head refl), sum-same f g xs (λ m k. h m (List·Memᴰ·tail k)))
-
--- a rising list names no number twice
-rising-total : (key f : ℕ → ℕ) (n : ℕ) (xs : List ℕ) → Rising key xs → ((m : ℕ) → List·Memᴰ m xs → m < n)
-    → ((m : ℕ) → m < n → (List·Memᴰ m xs → ⊥) → f m ≡ 0) → total f n ≡ sumList (map f xs)
-unfolding sum
-rising-total key f n [] rise in-range zeros = total-zero f n (λ m h. zeros m h List·Memᴰ·not-nil)
-rising-total key f n (x ∷ xs) rise in-range zeros =
-    let other : (m : ℕ) → List·Memᴰ m xs → without f x m ≡ f m = λ m h. without-other f x m (λ e. omega (arith, rise .0 m h, ap key e)) in
-    let rest : total (without f x) n ≡ sumList (map (without f x) xs) = rising-total key (without f x) n xs (rise .1) (λ m h. in-range m (List·Memᴰ·tail h))
-    (λ m i h. elim (ℕ-discrete m x) [
-      | yes e ↦ without-self f x m e
-      | no e ↦ without-other f x m e ∙ zeros m i (λ k. ⊎-elim (λ e′. e e′) (λ k′. h k′) (List·Memᴰ·cases-cons k))
-    ]) in
-    omega (arith, total-without f x n (in-range x (List·Memᴰ·head refl)), rest, sum-same (without f x) f xs other)
-
-pub listed-total : (starts part f : ℕ → ℕ) (count : ℕ) (vs : List ℕ) → Listed starts part count vs → ((m : ℕ) → m < count → part m ≡ 0 → f m ≡ 0)
-    → total f count ≡ sumList (map f vs)
-listed-total starts part f count vs l zeros =
-    rising-total starts f count vs (l .rising) (λ m h. l .sound m h .0)
-    (λ m i out. zeros m i (elim (decLt 0 (part m)) [ yes p ↦ absurd (out (l .whole m i p)) | no p ↦ omega arith ]))
 
 insert-sum : (key f : ℕ → ℕ) (m : ℕ) (ws : List ℕ) → sumList (map f (insert key m ws)) ≡ f m + sumList (map f ws)
 unfolding sum insert

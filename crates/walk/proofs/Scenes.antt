@@ -90,9 +90,6 @@ module _ (s : Scene) where
       let t : (o : Side) → held (leg ray o) (voxel vol m o) ≡ true = λ o. there-held o (place vol m o) (place vol m o + 1) (h o) in
       rw (t X, t Y, t Z) refl
 
-  pub held-array : holds ray (array vol) ≡ true → (o : Side) → HeldBy (way o) (line s o .p) (plane (line s o) 0) (plane (line s o) (line s o .n))
-  held-array h o = held-there o 0 (line s o .n) (all-held (λ x. held (leg ray x) (array vol x)) h o)
-
   -- ---- the rest of D
   factor-at : (o : Side) → 0 < factor (leg ray o)
   factor-at o = rw (leg-is o, factor-is (way o) (line s o .p) (line s o .q) (going o)) (factor-some (way o) (line s o .p) (line s o .q) (going o))
