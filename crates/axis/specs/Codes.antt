@@ -39,7 +39,7 @@ first (r ∷ rs) = cond (r .applies) (r .code) (first rs)
 abbrev pub planesOut : Limits → Axis → Bool
 planesOut m a = not (inside m (a .b)) || not (inside m (planes a .at (a .n)))
 
--- RULES 6, codes 1, 2 and 3: n, d, and the first and far plane, each asked of every axis ahead of the next
+-- RULES 6: 1, an n of 0 or too large; 2, a d of 0 or too large; 3, a first or far plane too far out. Each is asked of all axes
 abbrev pub axisRows : Limits → ((Axis → Bool) → Bool) → List Row
 axisRows m some =
     row 1 (some (λ a. eqb (a .n) 0 || ltb (m .n) (a .n))) ∷ row 2 (some (λ a. eqb (a .d) 0 || ltb (m .d) (a .d))) ∷ row 3 (some (planesOut m)) ∷ []

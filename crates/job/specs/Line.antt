@@ -47,7 +47,7 @@ placeOf word.Other = 3
 abbrev pub fieldsAt : (nx place : ℕ) → ℕ
 fieldsAt nx place = cond (eqb place 0) 10 (cond (eqb place 1) (nx + 1) 7)
 
--- RULES 10.4: 21, 22 and 23
+-- RULES 10.4: 21, an unknown word; 22, not the line that is due; 23, another number of fields
 abbrev pub headRows : (place nx : ℕ) → List (List ℕ) → List Row
 headRows place nx fields =
     let own : ℕ = placeOf (wordOf (getD fields 0 [])) in

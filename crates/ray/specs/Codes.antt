@@ -13,7 +13,7 @@ use Rattle.ray.specs.Length.{X, Y, Z, leg, volume, count, listOf}
 abbrev pub gridRows : Limits → Grid → List Row
 gridRows m g = axisRows m (λ refuses. refuses (g .x) || (refuses (g .y) || refuses (g .z)))
 
--- RULES 6, codes 5 and 6
+-- RULES 6: 5, an end beyond the limits on some axis; 6, no axis on which the ends differ
 abbrev pub someLeg : Ray → (Leg → Bool) → Bool
 someLeg r test = test (leg r X) || (test (leg r Y) || test (leg r Z))
 

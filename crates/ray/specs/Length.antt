@@ -19,7 +19,7 @@ leg r X = record { p = r .p .x; q = r .q .x }
 leg r Y = record { p = r .p .y; q = r .q .y }
 leg r Z = record { p = r .p .z; q = r .q .z }
 
--- RULES 3: D; then what is left of it without one axis
+-- RULES 3: D, over all axes, as a still one counts 1; then what is left of it without one axis
 abbrev pub dOf : Ray → ℕ
 dOf r = factor (leg r X) * (factor (leg r Y) * factor (leg r Z))
 
@@ -71,11 +71,11 @@ stop r b = let l : Side → ℕ = λ s. leaves (rest r s) (leg r s) (b s) in min
 unfoldable pub partOf : Volume → Ray → ℕ → ℕ
 partOf v r m = cond (holds r (voxel v m)) (stop r (voxel v m) - start r (voxel v m)) 0
 
--- RULES 4
+-- RULES 4: αmax not above αmin, or a still coordinate that the array does not hold
 unfoldable pub misses : Volume → Ray → Bool
 misses v r = leb (stop r (array v)) (start r (array v)) || not (holds r (array v))
 
--- RULES 4
+-- RULES 4: αmax less αmin, times D; 0 on a miss
 unfoldable pub spanOf : Volume → Ray → ℕ
 spanOf v r = cond (misses v r) 0 (stop r (array v) - start r (array v))
 
@@ -99,7 +99,7 @@ total f (suc m) = total f m + f m
 unfoldable pub sumOf : Volume → Ray → List ℕ → ℕ
 sumOf v r densities = total (λ m. partOf v r m * getD densities m 0) (count v)
 
--- RULES 4: planes crossed
+-- RULES 4, planes crossed: on a moving axis, above αmin and below αmax; each counted for its axis, and none on a miss
 unfoldable pub crosses : Volume → Ray → Side → ℕ → Bool
 crosses v r s i =
     let α : ℕ = run (leg r s) (v s .at i) * rest r s in
