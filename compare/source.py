@@ -2,6 +2,7 @@
 from __future__ import annotations
 
 import re
+import shutil
 import subprocess
 from fnmatch import fnmatchcase
 from functools import cache, cached_property
@@ -75,12 +76,19 @@ def items(text: str, crate: str, module: str, way: bool) -> Iterator[Item]:
             yield Item(crate, module, owner, part[1], "part", way, False, False)
 
 
+def listed(root: Path) -> list[str]:
+    """The repository's files: what git lists, or, in a copy that is no clone, all but what is built."""
+    words = ["git", "-C", str(root), "ls-files", "-z", "--cached", "--others", "--exclude-standard"]
+    if shutil.which("git") and (told := subprocess.run(words, capture_output=True, text=True)).returncode == 0:
+        return told.stdout.split("\0")
+    names = [name.relative_to(root) for name in root.rglob("*")]
+    return [str(name) for name in names if not {"target", ".git", "__pycache__"} & set(name.parts)]
+
+
 class Source:
     def __init__(self, root: Path) -> None:
         self.root = root
-        words = ["git", "-C", str(root), "ls-files", "-z", "--cached", "--others", "--exclude-standard"]
-        listed = subprocess.run(words, check=True, capture_output=True, text=True).stdout.split("\0")
-        self.files = sorted({name for name in listed if name and (root / name).is_file()})
+        self.files = sorted({name for name in listed(root) if name and (root / name).is_file()})
         self.crates = sorted({name.split("/")[1] for name in self.files if name.startswith("crates/")})
 
     @cache
