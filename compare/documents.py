@@ -231,6 +231,17 @@ def laws(source: Source, promises: str) -> Iterator[Found]:
         yield Found((law, name) in told, 0, law, f"of {name} is used by no proof, and is not named here")
 
 
+def counted(promises: str) -> Found:
+    """So many names, as the promises tell themselves: none is lost unseen, nor one that other proofs use."""
+    found = list(spans(promises))
+    laws = {(span.file, span.words) for span in found if span.file}
+    named_edits = {span.words for span in found if "/must-fail/" in span.words and "CRATE" not in span.words}
+    functions = {path for span in found if ITEM.fullmatch(span.words) for path in expanded(span.words)}
+    right = f"{len(laws)} laws and definitions, {len(named_edits)} edits and {len(functions)} functions"
+    told = re.search(r"\d+ laws and definitions, \d+ edits and \d+ functions", promises)
+    return Found(bool(told) and told[0] == right, told.start() if told else 0, told[0] if told else right, f"are told, and {right} are named")
+
+
 # ---- the rules
 
 
@@ -275,6 +286,8 @@ def self_test(source: Source, tally: Tally, promises: str, decisions: str) -> No
         "taken out of both": silent(lambda text: called(source, text, text), f"{promises}\n\n{decisions}", taken_out),
     }.items():
         tally.check(not missed, f"{told}, and not told: {missed}")
+    for words in {span.words for span in spans(promises) if span.file}:
+        tally.check(not counted(promises.replace(f"`{words}`", "")).good, f"{words} is taken out of the promises, and the count is told to be right")
     old = "document 0" + "1"
     sample = f"RULES {2} and {3.4}, RULES\n-- {5}. By {old} [a file](none.md)"
     told_of = [*cited(sample, "## 2. Two\n### 3.4 Four\n"), *linked(source, PROMISES, sample)]
@@ -300,6 +313,7 @@ def main() -> None:
     for part in (named, calls, edits, laws):
         look(PROMISES, part(source, promises))
     look(PROMISES, called(source, promises, decisions))
+    look(PROMISES, [counted(promises)])
     look(DECISIONS, shapes(source, decisions))
     rules = source.text(RULES) if RULES in source.files else ""
     for name in source.files:
