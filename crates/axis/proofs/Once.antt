@@ -7,19 +7,19 @@ use lib.IntN.{ℤ, pos, _+ℤ_}
 use Rattle.axis.specs.declared.Axis.{Axis}
 use Rattle.axis.specs.declared.Checked.{Checked}
 use Rattle.axis.specs.Leg.{natural}
-use Rattle.axis.specs.Codes.{bench, inside, axisCode, checkedAxis}
+use Rattle.axis.specs.Codes.{tenths, inside, axisCode, checkedAxis}
 
 pub once : {A : Type 0} {x y z : A} → x ≡ z → y ≡ z → x ≡ y
 once e f = e ∙ sym f
 
 pub checked-once : (n d : ℕ) (b : ℤ) (r s : Checked)
-    → r ≡ checkedAxis bench (record { n = n; d = d; b = b }) → s ≡ checkedAxis bench (record { n = n; d = d; b = b }) → r ≡ s
+    → r ≡ checkedAxis tenths (record { n = n; d = d; b = b }) → s ≡ checkedAxis tenths (record { n = n; d = d; b = b }) → r ≡ s
 checked-once n d b r s = once
 
-pub code-once : (a : Axis) (r s : ℕ) → r ≡ axisCode bench a → s ≡ axisCode bench a → r ≡ s
+pub code-once : (a : Axis) (r s : ℕ) → r ≡ axisCode tenths a → s ≡ axisCode tenths a → r ≡ s
 code-once a r s = once
 
-pub holds-once : (c : ℤ) (r s : Bool) → r ≡ inside bench c → s ≡ inside bench c → r ≡ s
+pub holds-once : (c : ℤ) (r s : Bool) → r ≡ inside tenths c → s ≡ inside tenths c → r ≡ s
 holds-once c r s = once
 
 pub raised-once : (c : ℤ) (by r s : ℕ) → r ≡ natural (c +ℤ pos by) → s ≡ natural (c +ℤ pos by) → r ≡ s

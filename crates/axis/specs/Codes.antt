@@ -17,8 +17,8 @@ pub record Limits : Type 0 where
   pub coord : ℕ
 
 -- RULES 1: the limits of this bench
-abbrev pub bench : Limits
-bench = record { n = 512; d = 4096; coord = 16384 }
+abbrev pub tenths : Limits
+tenths = record { n = 512; d = 4096; coord = 16384 }
 
 abbrev pub inside : Limits → ℤ → Bool
 inside m c = leZ (negℤ (pos (m .coord))) c && leZ c (pos (m .coord))

@@ -4,7 +4,7 @@ ghost use mathlib.Core.Bool.{_||_, cond};
 ghost use lib.Dec.{eqb, ltb};
 ghost use lib.IntN.{pos, _+ℤ_};
 ghost use Rattle.axis.specs.Leg.{natural};
-ghost use Rattle.axis.specs.Codes.{bench, inside, planesOut, axisCode, checkedAxis, told};
+ghost use Rattle.axis.specs.Codes.{tenths, inside, planesOut, axisCode, checkedAxis, told};
 
 // n voxels of spacing d from the first plane b on, in units of 0.1 mm. The fields say nothing of the
 // limits: whoever takes an axis checks it.
@@ -45,7 +45,7 @@ impl Axis {
 
     // Whether a coordinate is within the limits, both ends included.
     pub fn holds(c: i32) -> bool
-        ensures { λ r. ⌜ r ≡ inside bench c ⌝ }
+        ensures { λ r. ⌜ r ≡ inside tenths c ⌝ }
     {
         let top = Axis::COORD_MAX as i32;
         -top <= c && c <= top
@@ -53,7 +53,7 @@ impl Axis {
 
     // Whether the first or the far plane is outside its bounds.
     fn planes_out(self) -> bool
-        ensures { λ r. ⌜ r ≡ planesOut bench self ⌝ }
+        ensures { λ r. ⌜ r ≡ planesOut tenths self ⌝ }
     {
         let b = self.b;
         if Axis::holds(b) {
@@ -67,7 +67,7 @@ impl Axis {
 
     // The code that refuses the axis by itself, 0 where it is accepted.
     pub fn code(self) -> u32
-        ensures { λ r. ⌜ r ≡ axisCode bench self ⌝ }
+        ensures { λ r. ⌜ r ≡ axisCode tenths self ⌝ }
     {
         if beyond(self.n, Axis::COUNT_MAX) {
             return 1;
@@ -82,8 +82,8 @@ impl Axis {
     }
 
     pub fn checked(n: u32, d: u32, b: i32) -> Checked
-        ensures { λ r. ⌜ r ≡ checkedAxis bench (record { n = n; d = d; b = b }) ⌝ }
-        ensures { λ r. ⌜ told r .code ≡ axisCode bench (record { n = n; d = d; b = b }) ⌝ }
+        ensures { λ r. ⌜ r ≡ checkedAxis tenths (record { n = n; d = d; b = b }) ⌝ }
+        ensures { λ r. ⌜ told r .code ≡ axisCode tenths (record { n = n; d = d; b = b }) ⌝ }
         ensures { λ r. ⌜ told r .axis ≡ cond (eqb (told r .code) 0) (record { n = n; d = d; b = b }) (record { n = 0; d = 0; b = pos 0 }) ⌝ }
     {
         let a = Axis { n, d, b };

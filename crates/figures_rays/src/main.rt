@@ -2,9 +2,9 @@
 // that places which must stay as they were are seen.
 use axis::Axis;
 use libc::STDOUT_FILENO;
-use path::Trace;
-use path::calls::append;
-use path::calls::trace;
+use tracing::Trace;
+use tracing::calls::append;
+use tracing::calls::trace;
 use ray::End;
 use ray::Grid;
 use ray::Ray;
@@ -48,7 +48,7 @@ fn say(tried: &[u8], a: Trace) {
     spaced(a.entries as u64);
     spaced(a.crossed);
     spaced(a.span);
-    spaced(a.d);
+    spaced(a.denominator);
     spaced(a.squared);
     spaced(a.sum);
     text(b" |");

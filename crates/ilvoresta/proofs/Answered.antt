@@ -8,13 +8,13 @@ use native.Mathlib.Decide.{ℕ-discrete}
 use lib.Dec.{eqb}
 use lib.ListN.{length}
 use borrow.Author.Tests.{eq-eqb, ne-eqb, eqb-true}
-use Rattle.axis.specs.Codes.{bench, first}
+use Rattle.axis.specs.Codes.{tenths, first}
 use Rattle.ray.specs.declared.Grid.{Grid}
 use Rattle.ray.specs.declared.Ray.{Ray}
 use Rattle.ray.specs.Length.{volume}
 use Rattle.ray.specs.Codes.{traceRows}
-use Rattle.path.specs.declared.Trace.{Trace}
-use Rattle.path.specs.Answer.{codeOf, refused, accepted, answerOf, voxelsAfter, partsAfter}
+use Rattle.tracing.specs.declared.Trace.{Trace}
+use Rattle.tracing.specs.Answer.{codeOf, refused, accepted, answerOf, voxelsAfter, partsAfter}
 use Rattle.ilvoresta.specs.Entry.{lengthRow, traceCode, after, sixOf, Traced}
 use Rattle.ilvoresta.proofs.Last.{then, last-asked}
 
@@ -23,14 +23,14 @@ then-zero c = elim (ℕ-discrete c 0) [ yes e ↦ rw e refl | no e ↦ rw (ne-eq
 
 -- the six numbers of an answer
 abbrev pub sixIn : Trace → List ℕ
-sixIn t = t .entries ∷ t .crossed ∷ t .span ∷ t .d ∷ t .squared ∷ t .sum ∷ []
+sixIn t = t .entries ∷ t .crossed ∷ t .span ∷ t .denominator ∷ t .squared ∷ t .sum ∷ []
 
 module _ (g : Grid) (r : Ray) (densities vs ps ans : List ℕ) where
   abbrev code : ℕ
   code = codeOf g r (length densities) (length vs) (length ps) 0
 
   in-turn : traceCode g r (length densities) (length vs) (length ps) (length ans) ≡ then code (first (lengthRow 6 (length ans)))
-  in-turn = last-asked (traceRows bench g r (length densities) (length vs) (length ps) 0) (lengthRow 6 (length ans)) refl
+  in-turn = last-asked (traceRows tenths g r (length densities) (length vs) (length ps) 0) (lengthRow 6 (length ans)) refl
 
   -- a refusal: no list is touched
   refuses : (c : ℕ) → c ≡ traceCode g r (length densities) (length vs) (length ps) (length ans) → (c ≡ 0 → ⊥) → Traced g r densities vs ps ans c vs ps ans

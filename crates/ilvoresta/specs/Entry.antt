@@ -7,12 +7,12 @@ use lib.IntN.{ℤ}
 use lib.Dec.{eqb}
 use lib.Ieee.{Float}
 use lib.ListN.{length}
-use Rattle.axis.specs.Codes.{bench, Row, row, first}
+use Rattle.axis.specs.Codes.{tenths, Row, row, first}
 use Rattle.ray.specs.declared.Grid.{Grid}
 use Rattle.ray.specs.declared.Ray.{Ray}
 use Rattle.ray.specs.Length.{volume, dOf, squaredOf, spanOf, partOf, listOf, sumOf, crossedOf}
 use Rattle.ray.specs.Codes.{gridRows, endRows, traceRows}
-use Rattle.path.specs.Answer.{written}
+use Rattle.tracing.specs.Answer.{written}
 use Rattle.place.specs.Answers.{placeOf, told}
 
 -- RULES 9: a grid and a ray from numbers passed by value
@@ -32,10 +32,10 @@ lengthRow stated answer = row 17 (not (eqb answer stated)) ∷ []
 
 -- RULES 9: 17 comes behind all others
 abbrev pub traceCode : Grid → Ray → (densities voxels parts answer : ℕ) → ℕ
-traceCode g r densities voxels parts answer = first (traceRows bench g r densities voxels parts 0 ++ lengthRow 6 answer)
+traceCode g r densities voxels parts answer = first (traceRows tenths g r densities voxels parts 0 ++ lengthRow 6 answer)
 
 abbrev pub placeCode : Grid → Ray → (answer : ℕ) → ℕ
-placeCode g r answer = first (gridRows bench g ++ endRows bench r ++ lengthRow 2 answer)
+placeCode g r answer = first (gridRows tenths g ++ endRows tenths r ++ lengthRow 2 answer)
 
 -- a lent list afterwards: the new one where the code is 0, else as it was
 abbrev pub after : {A : Type 0} → (code : ℕ) → (new old : List A) → List A
@@ -63,4 +63,4 @@ pub record Traced (g : Grid) (r : Ray) (densities voxels parts answer : List ℕ
 -- RULES 9, the two floats as the place call tells them in numbers: zeros on a miss
 pub record Placed (g : Grid) (r : Ray) (answer : List Float) (code : ℕ) (answer′ : List Float) : Type 0 where
   pub code-is : code ≡ placeCode g r (length answer)
-  pub answer-now : answer′ ≡ after code (told (placeOf bench g r) .enter ∷ told (placeOf bench g r) .leave ∷ []) answer
+  pub answer-now : answer′ ≡ after code (told (placeOf tenths g r) .enter ∷ told (placeOf tenths g r) .leave ∷ []) answer

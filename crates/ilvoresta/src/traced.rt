@@ -3,20 +3,20 @@ ghost use mathlib.Core.Path.{_≡_};
 ghost use mathlib.Core.List.{[], _∷_};
 ghost use lib.ListN.{length};
 ghost use Rattle.ilvoresta.specs.Entry.{Traced};
-use path::Trace;
-use path::calls::trace;
-use path::code::code_of;
+use tracing::Trace;
+use tracing::calls::trace;
+use tracing::code::code_of;
 use ray::Grid;
 use ray::Ray;
 
 pub fn put_six(t: Trace, answer: &mut [u64])
     requires { ⌜ length (now answer) ≡ 6 ⌝ }
-    ensures { λ _. ⌜ now (answer .exit) ≡ (t .entries ∷ t .crossed ∷ t .span ∷ t .d ∷ t .squared ∷ t .sum ∷ []) ⌝ }
+    ensures { λ _. ⌜ now (answer .exit) ≡ (t .entries ∷ t .crossed ∷ t .span ∷ t .denominator ∷ t .squared ∷ t .sum ∷ []) ⌝ }
 {
     answer[0] = t.entries as u64;
     answer[1] = t.crossed;
     answer[2] = t.span;
-    answer[3] = t.d;
+    answer[3] = t.denominator;
     answer[4] = t.squared;
     answer[5] = t.sum;
 }

@@ -10,11 +10,11 @@ use borrow.Author.Tests.{ne-eqb, eqb-true, eqb-false}
 use Rattle.text.specs.Line.{lineOf}
 use Rattle.text.proofs.Split.{end-within}
 use Rattle.job.specs.declared.state.State.{State}
-use Rattle.job.specs.Stand.{placeAt, standOf}
+use Rattle.job.specs.Stand.{dueAt, standOf}
 use Rattle.job.specs.Line.{badLine}
 use Rattle.job.specs.Job.{END, atEnd, jobFrom}
 use Rattle.job.specs.Sound.{Sound, Begun}
-use Rattle.job.proofs.Places.{by}
+use Rattle.job.proofs.Due.{by}
 use Rattle.job.proofs.Flow.{job-end}
 
 -- what has begun of a line is as long as it is said to be
@@ -33,14 +33,14 @@ module _ (st : State) (line densities : List ℕ) (b : Begun (st .have) line) wh
       go (x ∷ xs) e = refl
 
   module _ (e : st .have ≡ 0) where
-    pub end-early : (placeAt (st .lines) (st .left) ≡ 2 → ⊥) → jobFrom (standOf st densities) (take (st .have) line) ≡ badLine (st .lines) 22
-    end-early h = at-end ∙ rw (e, ne-eqb (placeAt (st .lines) (st .left)) 2 h) refl
+    pub end-early : (dueAt (st .lines) (st .left) ≡ 2 → ⊥) → jobFrom (standOf st densities) (take (st .have) line) ≡ badLine (st .lines) 22
+    end-early h = at-end ∙ rw (e, ne-eqb (dueAt (st .lines) (st .left)) 2 h) refl
 
-    pub end-well : placeAt (st .lines) (st .left) ≡ 2 → jobFrom (standOf st densities) (take (st .have) line) ≡ lineOf END (st .rays ∷ [])
+    pub end-well : dueAt (st .lines) (st .left) ≡ 2 → jobFrom (standOf st densities) (take (st .have) line) ≡ lineOf END (st .rays ∷ [])
     end-well h = at-end ∙ rw (e, h) refl
 
 -- ahead of the RAY lines there are few lines
-pub early-number : (st : State) → Sound st → (placeAt (st .lines) (st .left) ≡ 2 → ⊥) → st .lines + 1 < 2 ^ 64
+pub early-number : (st : State) → Sound st → (dueAt (st .lines) (st .left) ≡ 2 → ⊥) → st .lines + 1 < 2 ^ 64
 early-number st s h = go (eqb (st .lines) 0) (eqb (st .left) 0) refl refl h
   where
     go : (b c : Bool) → eqb (st .lines) 0 ≡ b → eqb (st .left) 0 ≡ c → (by b c ≡ 2 → ⊥) → st .lines + 1 < 2 ^ 64

@@ -9,7 +9,7 @@ pub mod Printing
 pub mod Steps
 pub mod Loading
 pub mod Flow
-pub mod Places
+pub mod Due
 pub mod Ending
 pub mod Turns
 pub mod Feeding

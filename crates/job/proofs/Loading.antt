@@ -4,7 +4,7 @@ use mathlib.Core.List.{List}
 use mathlib.Core.Path.{_≡_, ap}
 use native.Mathlib.Nat.{add-mul}
 use native.Mathlib.Omega.{arith}
-use Rattle.axis.specs.Codes.{bench, first}
+use Rattle.axis.specs.Codes.{tenths, first}
 use Rattle.ray.specs.Codes.{gridRows}
 use Rattle.job.specs.declared.state.State.{State}
 use Rattle.job.specs.Stand.{Stand}
@@ -24,7 +24,7 @@ abbrev pub holding : State → List ℕ → Stand
 holding st densities = record { lines = st .lines; grid = st .grid; left = st .left; densities = densities; rays = st .rays }
 
 module _ (st : State) (s : Sound st) (started : 0 < st .lines) where
-  accepted : first (gridRows bench (st .grid)) ≡ 0
+  accepted : first (gridRows tenths (st .grid)) ≡ 0
   accepted = s .accepted (λ z. omega arith)
 
   pub its-sides : Sides (st .grid .x .n) (st .grid .y .n) (st .grid .z .n)

@@ -9,7 +9,7 @@ use native.Mathlib.Omega.{arith}
 use Rattle.ray.specs.declared.Grid.{Grid}
 use Rattle.ray.specs.declared.Ray.{Ray}
 use Rattle.ray.specs.Length.{Volume, volume, partOf}
-use Rattle.path.specs.declared.Trace.{Trace}
+use Rattle.tracing.specs.declared.Trace.{Trace}
 use Rattle.text.specs.Line.{lineOf}
 use Rattle.text.specs.Word.{RAY}
 use Rattle.job.specs.Rays.{traced, passed, figures, cell, cells, rayText}

@@ -1,4 +1,4 @@
--- What a line that is in its place comes to, as the code goes through it. Assumes nothing.
+-- What a line that is due comes to, as the code goes through it. Assumes nothing.
 use Prim.Native.Nat.{ℕ}
 use mathlib.Core.Bool.{Bool, false}
 use mathlib.Core.List.{List, _++_}

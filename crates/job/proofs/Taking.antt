@@ -8,7 +8,7 @@ use native.Mathlib.Decide.{decLe}
 use native.Mathlib.Omega.{arith}
 use borrow.Author.Tests.{ltb-false, ne-eqb}
 use Rattle.axis.specs.declared.Axis.{Axis}
-use Rattle.axis.specs.Codes.{bench, first, planesOut}
+use Rattle.axis.specs.Codes.{tenths, first, planesOut}
 use Rattle.ray.specs.declared.Grid.{Grid}
 use Rattle.ray.specs.Length.{X, Y, Z, volume, count}
 use Rattle.ray.specs.Codes.{gridRows}
@@ -31,20 +31,20 @@ module _ (g : Grid) where
   noD a = eqb (a .d) 0 || ltb 4096 (a .d)
 
   -- 25 stands behind 1, 2 and 3
-  pub code-then : gridCode g ≡ cond (eqb (first (gridRows bench g)) 0) (cond (ltb 4096 (count (volume g))) 25 0) (first (gridRows bench g))
-  code-then = grid-then (some noN) (some noD) (some (planesOut bench)) (cond (ltb 4096 (count (volume g))) 25 0)
+  pub code-then : gridCode g ≡ cond (eqb (first (gridRows tenths g)) 0) (cond (ltb 4096 (count (volume g))) 25 0) (first (gridRows tenths g))
+  code-then = grid-then (some noN) (some noD) (some (planesOut tenths)) (cond (ltb 4096 (count (volume g))) 25 0)
 
   -- the job takes a grid that no code refuses
-  pub code-zero : gridCode g ≡ 0 → (first (gridRows bench g) ≡ 0) × (count (volume g) ≤ 4096)
-  code-zero e = go (first (gridRows bench g)) (ltb 4096 (count (volume g))) refl (sym code-then ∙ e)
+  pub code-zero : gridCode g ≡ 0 → (first (gridRows tenths g) ≡ 0) × (count (volume g) ≤ 4096)
+  code-zero e = go (first (gridRows tenths g)) (ltb 4096 (count (volume g))) refl (sym code-then ∙ e)
     where
       go : (code : ℕ) (many : Bool) → ltb 4096 (count (volume g)) ≡ many → cond (eqb code 0) (cond many 25 0) code ≡ 0 → (code ≡ 0) × (count (volume g) ≤ 4096)
       go zero true m f = absurd (omega arith)
       go zero false m f = (refl, ltb-false 4096 (count (volume g)) m)
       go (suc code) many m f = let f′ : suc code ≡ 0 = rw (ne-eqb (suc code) 0 (λ z. omega arith)) at f in absurd (omega arith)
 
-  pub sides : first (gridRows bench g) ≡ 0 → Sides (g .x .n) (g .y .n) (g .z .n)
-  sides e = let ok = axes-ok bench g e in record { x = (ok X .some, ok X .few); y = (ok Y .some, ok Y .few); z = (ok Z .some, ok Z .few) }
+  pub sides : first (gridRows tenths g) ≡ 0 → Sides (g .x .n) (g .y .n) (g .z .n)
+  sides e = let ok = axes-ok tenths g e in record { x = (ok X .some, ok X .few); y = (ok Y .some, ok Y .few); z = (ok Z .some, ok Z .few) }
 
 -- as many densities as ny·nz lines of nx hold
 pub all-lines : (nx ny nz : ℕ) → ny * nz * nx ≡ nx * ny * nz

@@ -7,7 +7,7 @@ use lib.ListN.{length, take, length-map}
 use lib.Seq.{take-at}
 use native.Mathlib.Omega.{arith}
 use borrow.Author.Tests.{ne-eqb, le-ltb}
-use Rattle.axis.specs.Codes.{bench, first}
+use Rattle.axis.specs.Codes.{tenths, first}
 use Rattle.ray.specs.declared.Grid.{Grid}
 use Rattle.ray.specs.declared.Ray.{Ray}
 use Rattle.ray.specs.Length.{volume, partOf, listOf}
@@ -15,21 +15,21 @@ use Rattle.ray.specs.Codes.{gridRows, endRows}
 use Rattle.ray.proofs.Moved.{list-moved}
 use Rattle.walk.specs.Scene.{volumeOf, rayOf}
 use Rattle.walk.proofs.Counts.{entries-few}
-use Rattle.path.specs.declared.Trace.{Trace}
-use Rattle.path.specs.Answer.{codeOf, refused, accepted, answerOf, voxelsAfter, partsAfter}
-use Rattle.path.specs.Inside.{sceneOf}
-use Rattle.path.proofs.Accepting.{at-ends, at-room}
-use Rattle.path.proofs.Raised.{bench-small, able, moved}
+use Rattle.tracing.specs.declared.Trace.{Trace}
+use Rattle.tracing.specs.Answer.{codeOf, refused, accepted, answerOf, voxelsAfter, partsAfter}
+use Rattle.tracing.specs.Inside.{sceneOf}
+use Rattle.tracing.proofs.Accepting.{at-ends, at-room}
+use Rattle.tracing.proofs.Raised.{tenths-small, able, moved}
 use Rattle.job.specs.Rays.{rayCode, traced, passed}
 use Rattle.job.specs.Sound.{Taken}
 use Rattle.job.proofs.Taking.{sides, few-planes}
 
 -- RULES 4: the most entries there are
-entries-most : (g : Grid) (r : Ray) → first (gridRows bench g) ≡ 0 → first (endRows bench r) ≡ 0 → length (listOf (volume g) r) + 2 ≤ g .x .n + g .y .n + g .z .n
+entries-most : (g : Grid) (r : Ray) → first (gridRows tenths g) ≡ 0 → first (endRows tenths r) ≡ 0 → length (listOf (volume g) r) + 2 ≤ g .x .n + g .y .n + g .z .n
 entries-most g r grid ends =
-    let s = sceneOf bench g r in
-    let same = list-moved (pos 16384) (volume g) (volumeOf s) r (rayOf s) (moved bench g r grid ends) in
-    omega (arith, entries-few s (able bench g r grid ends bench-small), ap length same)
+    let s = sceneOf tenths g r in
+    let same = list-moved (pos 16384) (volume g) (volumeOf s) r (rayOf s) (moved tenths g r grid ends) in
+    omega (arith, entries-few s (able tenths g r grid ends tenths-small), ap length same)
 
 pub record Traced (g : Grid) (r : Ray) (densities : List ℕ) (a : Trace) (voxels parts : List ℕ) : Type 0 where
   pub answer : a ≡ traced g densities r

@@ -5,7 +5,7 @@ use mathlib.Core.List.{List, [], _∷_, _++_}
 use lib.Dec.{eqb}
 use Rattle.text.specs.Split.{split}
 use Rattle.text.specs.Line.{lineOf}
-use Rattle.job.specs.Stand.{Stand, atFirst, placeAt}
+use Rattle.job.specs.Stand.{Stand, atFirst, dueAt}
 use Rattle.job.specs.Line.{Step, goes, stops, badLine, lineStep}
 
 abbrev pub END : List ℕ
@@ -15,7 +15,7 @@ END = 69 ∷ 78 ∷ 68 ∷ []
 -- line that would have been next; else END with the number of RAY lines
 abbrev pub atEnd : Stand → List ℕ → List ℕ
 atEnd s (b ∷ bs) = badLine (s .lines) 20
-atEnd s [] = cond (eqb (placeAt (s .lines) (s .left)) 2) (lineOf END (s .rays ∷ [])) (badLine (s .lines) 22)
+atEnd s [] = cond (eqb (dueAt (s .lines) (s .left)) 2) (lineOf END (s .rays ∷ [])) (badLine (s .lines) 22)
 
 -- what a line prints, and then what comes behind it, unless the job stops
 abbrev pub andThen : Step → (Stand → List ℕ) → List ℕ

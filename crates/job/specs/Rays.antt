@@ -3,13 +3,13 @@ use Prim.Native.Nat.{ℕ}
 use mathlib.Core.Bool.{cond}
 use mathlib.Core.List.{List, [], _∷_, _++_, map}
 use lib.Dec.{eqb}
-use Rattle.axis.specs.Codes.{bench, first}
+use Rattle.axis.specs.Codes.{tenths, first}
 use Rattle.ray.specs.declared.Grid.{Grid}
 use Rattle.ray.specs.declared.Ray.{Ray}
-use Rattle.ray.specs.Length.{Volume, X, Y, Z, volume, place, partOf, listOf}
+use Rattle.ray.specs.Length.{Volume, X, Y, Z, volume, index, partOf, listOf}
 use Rattle.ray.specs.Codes.{endRows}
-use Rattle.path.specs.declared.Trace.{Trace}
-use Rattle.path.specs.Answer.{refused, accepted}
+use Rattle.tracing.specs.declared.Trace.{Trace}
+use Rattle.tracing.specs.Answer.{refused, accepted}
 use Rattle.text.specs.Line.{lineOf}
 use Rattle.text.specs.Word.{RAY}
 
@@ -19,7 +19,7 @@ CELL = 67 ∷ 69 ∷ 76 ∷ 76 ∷ []
 
 -- RULES 10.4: 5 or 6; no other code is left, since the grid is accepted and the lists suffice
 abbrev pub rayCode : Ray → ℕ
-rayCode r = first (endRows bench r)
+rayCode r = first (endRows tenths r)
 
 unfoldable pub traced : Grid → List ℕ → Ray → Trace
 traced g densities r = cond (eqb (rayCode r) 0) (accepted (volume g) r densities) (refused (rayCode r))
@@ -30,11 +30,11 @@ passed g r = cond (eqb (rayCode r) 0) (listOf (volume g) r) []
 
 -- the seven numbers of RULES 5
 abbrev pub figures : Trace → List ℕ
-figures t = t .code ∷ t .entries ∷ t .crossed ∷ t .span ∷ t .d ∷ t .squared ∷ t .sum ∷ []
+figures t = t .code ∷ t .entries ∷ t .crossed ∷ t .span ∷ t .denominator ∷ t .squared ∷ t .sum ∷ []
 
 -- an entry
 abbrev pub cell : Volume → ℕ → ℕ → List ℕ
-cell v m part = lineOf CELL (place v m X ∷ place v m Y ∷ place v m Z ∷ part ∷ [])
+cell v m part = lineOf CELL (index v m X ∷ index v m Y ∷ index v m Z ∷ part ∷ [])
 
 unfoldable pub cells : Volume → List ℕ → List ℕ → List ℕ
 cells v [] parts = []

@@ -5,7 +5,7 @@ use mathlib.Core.List.{List, [], _++_}
 use mathlib.Core.Path.{_≡_}
 use lib.Dec.{ltb, leb}
 use lib.ListN.{take, drop}
-use Rattle.axis.specs.Codes.{bench, first}
+use Rattle.axis.specs.Codes.{tenths, first}
 use Rattle.ray.specs.declared.Grid.{Grid}
 use Rattle.ray.specs.Length.{volume, count}
 use Rattle.ray.specs.Codes.{gridRows}
@@ -19,13 +19,13 @@ use Rattle.job.specs.Job.{jobFrom}
 
 -- a grid that the job takes, with all its densities
 pub record Taken (g : Grid) (densities : ℕ) : Type 0 where
-  pub accepted : first (gridRows bench g) ≡ 0
+  pub accepted : first (gridRows tenths g) ≡ 0
   pub few : count (volume g) ≤ 4096
   pub whole : densities ≡ count (volume g)
 
 -- the grid is one that the job takes, as soon as it is read, and its densities are read or still to come
 pub record Sound (st : State) : Type 0 where
-  pub accepted : (st .lines ≡ 0 → ⊥) → first (gridRows bench (st .grid)) ≡ 0
+  pub accepted : (st .lines ≡ 0 → ⊥) → first (gridRows tenths (st .grid)) ≡ 0
   pub few : count (volume (st .grid)) ≤ 4096
   pub loaded : st .filled + st .left * st .grid .x .n ≡ count (volume (st .grid))
   pub counted : st .rays ≤ st .lines

@@ -28,8 +28,8 @@ abbrev pub atFirst : Stand
 atFirst = record { lines = 0; grid = noGrid; left = 0; densities = []; rays = 0 }
 
 -- which line is due: 0 GRID, 1 DENS while some are left, 2 RAY
-abbrev pub placeAt : (lines left : ℕ) → ℕ
-placeAt lines left = cond (eqb lines 0) 0 (cond (eqb left 0) 2 1)
+abbrev pub dueAt : (lines left : ℕ) → ℕ
+dueAt lines left = cond (eqb lines 0) 0 (cond (eqb left 0) 2 1)
 
 -- what a state says, where the densities read are the first of a list
 abbrev pub standOf : State → List ℕ → Stand

@@ -2,13 +2,13 @@
 ghost use mathlib.Core.Path.{_≡_};
 ghost use Rattle.axis.specs.Codes.{first};
 ghost use Rattle.text.specs.Split.{split};
-ghost use Rattle.job.specs.Line.{placeOf, fieldsAt, headRows};
+ghost use Rattle.job.specs.Line.{kindOf, fieldsOf, headRows};
 use text::fields::count;
 use text::word::Word;
 use text::word::first_word;
 
-fn place_of(word: Word) -> u32
-    ensures { λ r. ⌜ r ≡ placeOf word ⌝ }
+fn kind_of(word: Word) -> u32
+    ensures { λ r. ⌜ r ≡ kindOf word ⌝ }
 {
     match word {
         Word::Grid => 0,
@@ -18,30 +18,30 @@ fn place_of(word: Word) -> u32
     }
 }
 
-fn fields_at(place: u32, nx: u32) -> usize
-    ensures { λ r. ⌜ r ≡ fieldsAt nx place ⌝ }
+fn fields_of(due: u32, nx: u32) -> usize
+    ensures { λ r. ⌜ r ≡ fieldsOf nx due ⌝ }
 {
-    if place == 0 {
+    if due == 0 {
         return 10;
     }
-    if place == 1 {
+    if due == 1 {
         return nx as usize + 1;
     }
     7
 }
 
-// 21, 22 or 23 for a line where one of this place is wanted, 0 where none applies.
-pub fn head_code(line: &[u8], place: u32, nx: u32) -> u32
-    ensures { λ r. ⌜ r ≡ first (headRows place nx (split 9 (now (line .entry)))) ⌝ }
+// 21, 22 or 23 for a line where one of this kind is due, 0 where none applies.
+pub fn head_code(line: &[u8], due: u32, nx: u32) -> u32
+    ensures { λ r. ⌜ r ≡ first (headRows due nx (split 9 (now (line .entry)))) ⌝ }
 {
-    let own = place_of(first_word(line));
+    let own = kind_of(first_word(line));
     if own == 3 {
         return 21;
     }
-    if own != place {
+    if own != due {
         return 22;
     }
-    if count(line) != fields_at(place, nx) {
+    if count(line) != fields_of(due, nx) {
         return 23;
     }
     0

@@ -13,8 +13,8 @@ ghost use Rattle.job.specs.Sound.{Sound, Ready, Kept, stepIs, after, roo
 ghost use Rattle.job.specs.Read.{readRay};
 use crate::state::Moved;
 use crate::state::State;
-use path::Trace;
-use path::calls::trace;
+use tracing::Trace;
+use tracing::calls::trace;
 use ray::End;
 use ray::Grid;
 use ray::Ray;
@@ -100,7 +100,7 @@ fn put_ray(g: Grid, r: Ray, densities: &[u16], out: &mut [u8], at: usize) -> usi
         n as u64,
         t.crossed,
         t.span,
-        t.d,
+        t.denominator,
         t.squared,
         t.sum,
     ];

@@ -4,7 +4,7 @@ ghost use mathlib.Core.Bool.{false};
 ghost use mathlib.Core.List.{List, _++_};
 ghost use Prim.Native.Nat.{ℕ, _+_};
 ghost use lib.ListN.{length, take};
-ghost use Rattle.job.specs.Stand.{atFirst, placeAt, standOf};
+ghost use Rattle.job.specs.Stand.{atFirst, dueAt, standOf};
 ghost use Rattle.job.specs.Line.{badLine};
 ghost use Rattle.job.specs.Sound.{Sound, Ready, Kept};
 use axis::Axis;
@@ -50,9 +50,9 @@ impl State {
         }
     }
 
-    // The place of the next line: 0 GRID, 1 DENS, 2 RAY.
-    pub fn place(self) -> u32
-        ensures { λ r. ⌜ r ≡ placeAt (self .lines) (self .left) ⌝ }
+    // Which line is due: 0 GRID, 1 DENS, 2 RAY.
+    pub fn due(self) -> u32
+        ensures { λ r. ⌜ r ≡ dueAt (self .lines) (self .left) ⌝ }
     {
         if self.lines == 0 {
             return 0;

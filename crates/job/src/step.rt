@@ -26,16 +26,16 @@ fn take_line(st: State, line: &[u8], densities: &mut [u16], out: &mut [u8], at: 
     ensures { λ r. ⌜ Kept st at r ⌝ }
     ensures { λ r. ⌜ stepIs (r .going) (take (r .at) (now (out .exit))) (standOf (r .state) (now (densities .exit))) ≡ after (take at (now (out .entry))) (lineStep (standOf st (now (densities .entry))) (now (line .entry))) ⌝ }
 {
-    let place = st.place();
+    let due = st.due();
     let x = st.grid.x;
-    let code = head_code(line, place, x.n);
+    let code = head_code(line, due, x.n);
     if code != 0 {
         return st.refuse(code, out, at);
     }
-    if place == 0 {
+    if due == 0 {
         return take_grid(st, line, out, at);
     }
-    if place == 1 {
+    if due == 1 {
         return take_dens(st, line, densities, out, at);
     }
     take_ray(st, line, densities, out, at)
@@ -97,7 +97,7 @@ pub fn finish(st: State, out: &mut [u8], at: usize) -> usize
     if st.have != 0 {
         return put_line(out, at, b"BAD", &[st.lines + 1, 20]);
     }
-    if st.place() != 2 {
+    if st.due() != 2 {
         return put_line(out, at, b"BAD", &[st.lines + 1, 22]);
     }
     put_line(out, at, b"END", &[st.rays])

@@ -7,11 +7,11 @@ use mathlib.Core.List.{List, [], _∷_}
 use lib.Dec.{eqb}
 use lib.Ieee.{Float}
 use lib.ListN.{length}
-use Rattle.axis.specs.Codes.{bench}
+use Rattle.axis.specs.Codes.{tenths}
 use Rattle.ray.specs.declared.Grid.{Grid}
 use Rattle.ray.specs.declared.Ray.{Ray}
 use Rattle.ilvoresta.proofs.Answered.{sixIn}
-use Rattle.path.specs.Answer.{answerOf, voxelsAfter, partsAfter}
+use Rattle.tracing.specs.Answer.{answerOf, voxelsAfter, partsAfter}
 use Rattle.place.specs.declared.Mark.{Mark}
 use Rattle.place.specs.declared.Mark.the-variants.{Refused, Miss, Hit}
 use Rattle.place.specs.declared.Points.{Points}
@@ -39,6 +39,6 @@ pub record Appended (g : Grid) (r : Ray) (densities voxels parts answer : List �
   pub answer-now : answer′ ≡ put (sixIn (answerOf g r densities (length voxels) (length parts) filled)) answer
 
 pub record Pointed (g : Grid) (r : Ray) (mark : List ℕ) (floats : List Float) (code : ℕ) (mark′ : List ℕ) (floats′ : List Float) : Type 0 where
-  pub code-is : code ≡ markCode (pointsOf bench g r .mark)
-  pub mark-now : mark′ ≡ put (markOf (pointsOf bench g r .mark) ∷ []) mark
-  pub floats-now : floats′ ≡ put (floatsOf (pointsOf bench g r)) floats
+  pub code-is : code ≡ markCode (pointsOf tenths g r .mark)
+  pub mark-now : mark′ ≡ put (markOf (pointsOf tenths g r .mark) ∷ []) mark
+  pub floats-now : floats′ ≡ put (floatsOf (pointsOf tenths g r)) floats

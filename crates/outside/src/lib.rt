@@ -12,7 +12,7 @@ use crate::put::put_mark;
 use crate::put::put_points;
 use ilvoresta::given::grid_of;
 use ilvoresta::given::ray_of;
-use path::calls::append;
+use tracing::calls::append;
 use place::call::points;
 
 // Returns the code. `answer` holds the other six numbers, after a refusal too.

@@ -5,7 +5,7 @@ ghost use Rattle.ilvoresta.proofs.Answered.{sixIn};
 ghost use Rattle.place.specs.Answers.{markCode};
 ghost use Rattle.outside.specs.Doors.{put, markOf, floatsOf};
 use ilvoresta::traced::put_six;
-use path::Trace;
+use tracing::Trace;
 use place::Mark;
 use place::Points;
 

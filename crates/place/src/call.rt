@@ -1,6 +1,6 @@
 // The place call and the point call.
 ghost use mathlib.Core.Path.{_≡_};
-ghost use Rattle.axis.specs.Codes.{bench};
+ghost use Rattle.axis.specs.Codes.{tenths};
 ghost use Rattle.place.specs.Answers.{refusalOf, placeOf, told, toldOf, nowhere, markCode, pointsOf};
 use crate::Mark;
 use crate::Place;
@@ -14,8 +14,8 @@ use ray::Grid;
 use ray::Ray;
 
 pub fn place(g: Grid, r: Ray) -> Place
-    ensures { λ a. ⌜ a ≡ placeOf bench g r ⌝ }
-    ensures { λ a. ⌜ told a ≡ toldOf bench g r ⌝ }
+    ensures { λ a. ⌜ a ≡ placeOf tenths g r ⌝ }
+    ensures { λ a. ⌜ told a ≡ toldOf tenths g r ⌝ }
 {
     let c = across(g, r);
     match c {
@@ -46,8 +46,8 @@ fn unplaced(mark: Mark) -> Points
 }
 
 pub fn points(g: Grid, r: Ray) -> Points
-    ensures { λ a. ⌜ a ≡ pointsOf bench g r ⌝ }
-    ensures { λ a. ⌜ markCode (a .mark) ≡ refusalOf bench g r ⌝ }
+    ensures { λ a. ⌜ a ≡ pointsOf tenths g r ⌝ }
+    ensures { λ a. ⌜ markCode (a .mark) ≡ refusalOf tenths g r ⌝ }
 {
     let c = across(g, r);
     match c {

@@ -2,7 +2,7 @@
 ghost use mathlib.Core.Path.{_≡_};
 ghost use mathlib.Core.Bool.{true};
 ghost use Prim.Native.Nat.{_+_, _-_, _*_, _^_, _≤_, _<_};
-ghost use Rattle.axis.specs.Codes.{bench, inside};
+ghost use Rattle.axis.specs.Codes.{tenths, inside};
 ghost use Rattle.place.specs.Deciding.{Small};
 ghost use Rattle.place.specs.Answers.{coordinate, pointAt};
 use crate::Point;
@@ -21,7 +21,7 @@ fn along(p: u64, q: u64, f: Fraction) -> u64
 }
 
 fn coordinate_at(p: i32, q: i32, f: Fraction) -> f64
-    requires { ⌜ (inside bench p ≡ true) × (inside bench q ≡ true) ⌝ }
+    requires { ⌜ (inside tenths p ≡ true) × (inside tenths q ≡ true) ⌝ }
     requires { ⌜ Small f ⌝ }
     requires { ⌜ (f .num ≤ f .den) × (0 < f .den) ⌝ }
     ensures { λ r. ⌜ r ≡ coordinate (record { p = p; q = q }) (f .num) (f .den) ⌝ }
@@ -37,9 +37,9 @@ fn coordinate_at(p: i32, q: i32, f: Fraction) -> f64
 }
 
 pub fn point_at(r: Ray, f: Fraction) -> Point
-    requires { ⌜ (inside bench (r .p .x) ≡ true) × (inside bench (r .q .x) ≡ true) ⌝ }
-    requires { ⌜ (inside bench (r .p .y) ≡ true) × (inside bench (r .q .y) ≡ true) ⌝ }
-    requires { ⌜ (inside bench (r .p .z) ≡ true) × (inside bench (r .q .z) ≡ true) ⌝ }
+    requires { ⌜ (inside tenths (r .p .x) ≡ true) × (inside tenths (r .q .x) ≡ true) ⌝ }
+    requires { ⌜ (inside tenths (r .p .y) ≡ true) × (inside tenths (r .q .y) ≡ true) ⌝ }
+    requires { ⌜ (inside tenths (r .p .z) ≡ true) × (inside tenths (r .q .z) ≡ true) ⌝ }
     requires { ⌜ Small f ⌝ }
     requires { ⌜ (f .num ≤ f .den) × (0 < f .den) ⌝ }
     ensures { λ a. ⌜ a ≡ pointAt r (f .num) (f .den) ⌝ }

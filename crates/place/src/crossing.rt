@@ -4,7 +4,7 @@ ghost use mathlib.Core.Bool.{true, _&&_};
 ghost use Prim.Native.Nat.{_-_, _≤_};
 ghost use lib.IntN.{pos};
 ghost use Rattle.axis.specs.Leg.{planes};
-ghost use Rattle.axis.specs.Codes.{bench, inside, axisCode};
+ghost use Rattle.axis.specs.Codes.{tenths, inside, axisCode};
 ghost use Rattle.place.specs.Answers.{refusalOf};
 ghost use Rattle.place.specs.Deciding.{Small, stretchOf, entering, leaving, αmin, αmax, joinedOf, crossingOf};
 use crate::fraction::Fraction;
@@ -31,7 +31,7 @@ pub enum Crossing {
 }
 
 fn refusal(g: Grid, r: Ray) -> u32
-    ensures { λ c. ⌜ c ≡ refusalOf bench g r ⌝ }
+    ensures { λ c. ⌜ c ≡ refusalOf tenths g r ⌝ }
 {
     let code = ray::check::grid_code(g);
     if code == 0 {
@@ -78,9 +78,9 @@ fn between(lo: u64, hi: u64, p: u64, q: u64) -> Stretch
 }
 
 fn on_axis(a: Axis, p: i32, q: i32) -> Stretch
-    requires { ⌜ axisCode bench a ≡ 0 ⌝ }
-    requires { ⌜ inside bench p ≡ true ⌝ }
-    requires { ⌜ inside bench q ≡ true ⌝ }
+    requires { ⌜ axisCode tenths a ≡ 0 ⌝ }
+    requires { ⌜ inside tenths p ≡ true ⌝ }
+    requires { ⌜ inside tenths q ≡ true ⌝ }
     ensures { λ r. ⌜ r ≡ stretchOf (record { p = p; q = q }) (record { lo = planes a .at 0; hi = planes a .at (a .n) }) ⌝ }
 {
     let lo = axis::raised(a.b, Axis::COORD_MAX);
@@ -156,7 +156,7 @@ fn joined(x: Stretch, y: Stretch, z: Stretch) -> Crossing
 }
 
 pub fn across(g: Grid, r: Ray) -> Crossing
-    ensures { λ c. ⌜ c ≡ crossingOf bench g r ⌝ }
+    ensures { λ c. ⌜ c ≡ crossingOf tenths g r ⌝ }
 {
     let code = refusal(g, r);
     if code != 0 {

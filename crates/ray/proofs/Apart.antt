@@ -12,12 +12,12 @@ use lib.Signed.{leZ, ltZ}
 use Rattle.axis.specs.Leg.{moving, run, Slab, held}
 use Rattle.axis.proofs.Flag.{and-left, and-right}
 use Rattle.ray.specs.declared.Ray.{Ray}
-use Rattle.ray.specs.Length.{Side, X, Y, Z, leg, dOf, rest, Volume, count, place, voxel, holds, start, stop, partOf}
+use Rattle.ray.specs.Length.{Side, X, Y, Z, leg, dOf, rest, Volume, count, index, voxel, holds, start, stop, partOf}
 use Rattle.ray.proofs.Through.{min-cap-rises, times-rises}
 use Rattle.ray.proofs.Told.{le-shift, lt-shift, level, natural-rises, natural-falls}
 use Rattle.ray.proofs.Planes.{Rise, rise-to}
 use Rattle.ray.proofs.Listing.{Apart, starts}
-use Rattle.ray.proofs.Places.{place-below, place-same}
+use Rattle.ray.proofs.Indices.{index-below, index-same}
 use Rattle.ray.proofs.Capped.{on, enter, leave, begin, begin-sides, stop-sides, part-voxel, Met, met}
 
 -- ---- one side
@@ -80,17 +80,17 @@ module _ (r : Ray) (b : Side → Slab) where
 
 module _ (v : Volume) (rise : Rise v) (r : Ray) where
   -- m below w on a side
-  below-side : (m w : ℕ) → w < count v → Met r (voxel v m) → Met r (voxel v w) → (s : Side) → place v m s < place v w s
+  below-side : (m w : ℕ) → w < count v → Met r (voxel v m) → Met r (voxel v w) → (s : Side) → index v m s < index v w s
       → (stop r (voxel v m) ≤ start r (voxel v w)) ⊎ (stop r (voxel v w) ≤ start r (voxel v m))
   below-side m w hw mm mw s h =
-      let i : place v w s < v s .n = place-below v w hw s in
+      let i : index v w s < v s .n = index-below v w hw s in
       ⊎-elim
       (λ l. inl (le-trans (stop-side r (voxel v m) s) (le-trans l (rw (mw .begins) at (begin-side r (voxel v w) s)))))
       (λ l. inr (le-trans (stop-side r (voxel v w) s) (le-trans l (rw (mm .begins) at (begin-side r (voxel v m) s)))))
       (apart-side r s (voxel v m s) (voxel v w s)
-      (rise-to v rise s (place v m s) (place v m s + 1) (omega arith) (omega arith))
-      (rise-to v rise s (place v m s + 1) (place v w s) (omega arith) (omega arith))
-      (rise-to v rise s (place v w s) (place v w s + 1) (omega arith) (omega arith))
+      (rise-to v rise s (index v m s) (index v m s + 1) (omega arith) (omega arith))
+      (rise-to v rise s (index v m s + 1) (index v w s) (omega arith) (omega arith))
+      (rise-to v rise s (index v w s) (index v w s + 1) (omega arith) (omega arith))
       (held-on r (voxel v m) (mm .held) s)
       (held-on r (voxel v w) (mw .held) s))
 
@@ -101,23 +101,23 @@ module _ (v : Volume) (rise : Rise v) (r : Ray) where
     met-w : Met r (voxel v w)
     met-w = met r (voxel v w) (rw (part-voxel v r w) at pw)
 
-    side-apart : (s : Side) → (place v m s ≡ place v w s → ⊥) → (stop r (voxel v m) ≤ start r (voxel v w)) ⊎ (stop r (voxel v w) ≤ start r (voxel v m))
-    side-apart s h = elim (decLt (place v m s) (place v w s)) [
+    side-apart : (s : Side) → (index v m s ≡ index v w s → ⊥) → (stop r (voxel v m) ≤ start r (voxel v w)) ⊎ (stop r (voxel v w) ≤ start r (voxel v m))
+    side-apart s h = elim (decLt (index v m s) (index v w s)) [
       | yes l ↦ below-side m w hw met-m met-w s l
       | no l ↦ ⊎-elim (λ a. inr a) (λ a. inl a) (below-side w m hm met-w met-m s (omega arith))
     ]
 
     -- two voxels with a part: one follows the other
     pub voxel-apart : (m ≡ w → ⊥) → (stop r (voxel v m) ≤ start r (voxel v w)) ⊎ (stop r (voxel v w) ≤ start r (voxel v m))
-    voxel-apart h = elim (ℕ-discrete (place v m X) (place v w X)) [
+    voxel-apart h = elim (ℕ-discrete (index v m X) (index v w X)) [
       | no k ↦ side-apart X k
-      | yes x ↦ elim (ℕ-discrete (place v m Y) (place v w Y)) [
+      | yes x ↦ elim (ℕ-discrete (index v m Y) (index v w Y)) [
         | no k ↦ side-apart Y k
-        | yes y ↦ elim (ℕ-discrete (place v m Z) (place v w Z)) [ no k ↦ side-apart Z k | yes z ↦ absurd (h (place-same v m w (same x y z))) ]
+        | yes y ↦ elim (ℕ-discrete (index v m Z) (index v w Z)) [ no k ↦ side-apart Z k | yes z ↦ absurd (h (index-same v m w (same x y z))) ]
       ]
     ]
       where
-        same : place v m X ≡ place v w X → place v m Y ≡ place v w Y → place v m Z ≡ place v w Z → (s : Side) → place v m s ≡ place v w s
+        same : index v m X ≡ index v w X → index v m Y ≡ index v w Y → index v m Z ≡ index v w Z → (s : Side) → index v m s ≡ index v w s
         same x y z X = x
         same x y z Y = y
         same x y z Z = z

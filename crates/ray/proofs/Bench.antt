@@ -3,7 +3,7 @@ use Prim.Native.Nat.{ℕ}
 use mathlib.Core.Path.{_≡_, refl}
 use mathlib.Core.List.{List, [], _∷_, map}
 use lib.IntN.{ℤ, pos, negsuc}
-use Rattle.axis.specs.Codes.{bench, first}
+use Rattle.axis.specs.Codes.{tenths, first}
 use Rattle.ray.specs.declared.Grid.{Grid}
 use Rattle.ray.specs.declared.Ray.{Ray}
 use Rattle.ray.specs.Length.{volume, dOf, squaredOf, partOf, misses, spanOf, insert, listTo, listOf, total, sumOf, crosses, crossedOf}
@@ -31,7 +31,7 @@ pub record Line : Type 0 where
 
 unfoldable pub says : Ray → Line
 says r = record {
-  code = first (traceRows bench grid r 6 4 4 0);
+  code = first (traceRows tenths grid r 6 4 4 0);
   voxels = listOf (volume grid) r;
   parts = map (partOf (volume grid) r) (listOf (volume grid) r);
   crossed = crossedOf (volume grid) r;

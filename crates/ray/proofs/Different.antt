@@ -35,10 +35,10 @@ unfoldable pub differentOf : Volume → Ray → ℕ
 differentOf v r = total (λ x. cond (crossedAt v r x) 1 0) (dOf r)
 
 -- three planes of ray C at three α, two of ray D at one
-pub bench : (differentOf (volume grid) (ray (pos 0) (pos 0) (pos 5) (pos 30) (pos 20) (pos 5)) ≡ 3)
+pub tenths : (differentOf (volume grid) (ray (pos 0) (pos 0) (pos 5) (pos 30) (pos 20) (pos 5)) ≡ 3)
     × (differentOf (volume grid) (ray (pos 0) (pos 0) (pos 5) (pos 20) (pos 20) (pos 5)) ≡ 1)
 unfolding total crosses some crossedAt differentOf
-bench = (refl, refl)
+tenths = (refl, refl)
 
 -- ---- what the tests decide
 or-yes : (a b : Bool) → b ≡ true → (a || b) ≡ true

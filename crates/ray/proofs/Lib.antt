@@ -24,7 +24,7 @@ pub mod Formula
 pub mod Equation1
 pub mod HitOrMiss
 pub mod Planes
-pub mod Places
+pub mod Indices
 pub mod Apart
 pub mod TurnedList
 pub mod Seam

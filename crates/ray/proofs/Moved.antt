@@ -8,7 +8,7 @@ use lib.Dec.{leb, ltb, eqb}
 use lib.ListN.{getD}
 use Rattle.axis.specs.Leg.{Slab, moving, factor, run, held, enters, leaves}
 use Rattle.ray.specs.declared.Ray.{Ray}
-use Rattle.ray.specs.Length.{Side, X, Y, Z, leg, dOf, rest, squaredOf, Volume, count, array, place, voxel, holds, start, stop, partOf, misses, spanOf, insert, listTo, listOf, total, sumOf, crosses, crossedOf}
+use Rattle.ray.specs.Length.{Side, X, Y, Z, leg, dOf, rest, squaredOf, Volume, count, array, index, voxel, holds, start, stop, partOf, misses, spanOf, insert, listTo, listOf, total, sumOf, crosses, crossedOf}
 use Rattle.ray.proofs.Different.{alphaOf, some, crossesAt, crossedAt, differentOf}
 use Rattle.ray.proofs.MovedAxis.{legOn, slabOn, diff-on, moving-on, factor-on, run-on, held-on, enters-on, leaves-on}
 
@@ -62,15 +62,15 @@ module _ (k : ℤ) (v v′ : Volume) (r r′ : Ray) (moved : Moved k v v′ r r�
   pub count-moved : count v′ ≡ count v
   count-moved = λ t. moved .sizes X t * moved .sizes Y t * moved .sizes Z t
 
-  pub place-moved : (m : ℕ) (s : Side) → place v′ m s ≡ place v m s
-  place-moved m X = λ t. m % moved .sizes X t
-  place-moved m Y = λ t. m / moved .sizes X t % moved .sizes Y t
-  place-moved m Z = λ t. m / moved .sizes X t / moved .sizes Y t
+  pub index-moved : (m : ℕ) (s : Side) → index v′ m s ≡ index v m s
+  index-moved m X = λ t. m % moved .sizes X t
+  index-moved m Y = λ t. m / moved .sizes X t % moved .sizes Y t
+  index-moved m Z = λ t. m / moved .sizes X t / moved .sizes Y t
 
   pub voxel-moved : (m : ℕ) (s : Side) → voxel v′ m s ≡ slabOn k (voxel v m s)
   voxel-moved m s =
-      (λ t. record { lo = v′ s .at (place-moved m s t); hi = v′ s .at (place-moved m s t + 1) })
-      ∙ (λ t. record { lo = moved .planes s (place v m s) t; hi = moved .planes s (place v m s + 1) t })
+      (λ t. record { lo = v′ s .at (index-moved m s t); hi = v′ s .at (index-moved m s t + 1) })
+      ∙ (λ t. record { lo = moved .planes s (index v m s) t; hi = moved .planes s (index v m s + 1) t })
 
   pub array-moved : (s : Side) → array v′ s ≡ slabOn k (array v s)
   array-moved s =

@@ -48,13 +48,13 @@ abbrev pub array : Volume → Side → Slab
 array v s = record { lo = v s .at 0; hi = v s .at (v s .n) }
 
 -- RULES 1: the indices i, j, k of a voxel number
-abbrev pub place : Volume → ℕ → Side → ℕ
-place v m X = m % v X .n
-place v m Y = m / v X .n % v Y .n
-place v m Z = m / v X .n / v Y .n
+abbrev pub index : Volume → ℕ → Side → ℕ
+index v m X = m % v X .n
+index v m Y = m / v X .n % v Y .n
+index v m Z = m / v X .n / v Y .n
 
 abbrev pub voxel : Volume → ℕ → Side → Slab
-voxel v m s = record { lo = v s .at (place v m s); hi = v s .at (place v m s + 1) }
+voxel v m s = record { lo = v s .at (index v m s); hi = v s .at (index v m s + 1) }
 
 -- RULES 3: whether every still axis holds the ray; enter and leave times D. For the array's box they are αmin and αmax,
 -- equation (5) (RULES 4).

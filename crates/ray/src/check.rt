@@ -4,7 +4,7 @@ ghost use mathlib.Core.Bool.{_||_, not, cond};
 ghost use Prim.Native.Nat.{min};
 ghost use lib.Dec.{eqb};
 ghost use Rattle.axis.specs.Leg.{moving};
-ghost use Rattle.axis.specs.Codes.{bench, inside, first};
+ghost use Rattle.axis.specs.Codes.{tenths, inside, first};
 ghost use Rattle.ray.specs.Codes.{gridRows, someLeg, endRows};
 use crate::Grid;
 use crate::Ray;
@@ -25,7 +25,7 @@ fn lesser(a: u32, b: u32) -> u32
 
 // 1, 2 or 3 where some axis is refused, the least that an axis has by itself; 0 where all are accepted.
 pub fn grid_code(g: Grid) -> u32
-    ensures { λ r. ⌜ r ≡ first (gridRows bench g) ⌝ }
+    ensures { λ r. ⌜ r ≡ first (gridRows tenths g) ⌝ }
 {
     let x = g.x;
     let y = g.y;
@@ -35,7 +35,7 @@ pub fn grid_code(g: Grid) -> u32
 
 // Whether one of the ray's two coordinates on an axis is outside its bounds.
 fn leg_out(p: i32, q: i32) -> bool
-    ensures { λ r. ⌜ r ≡ (not (inside bench p) || not (inside bench q)) ⌝ }
+    ensures { λ r. ⌜ r ≡ (not (inside tenths p) || not (inside tenths q)) ⌝ }
 {
     if Axis::holds(p) {
         !Axis::holds(q)
@@ -57,7 +57,7 @@ fn one_of(x: bool, y: bool, z: bool) -> bool
 }
 
 fn ends_out(r: Ray) -> bool
-    ensures { λ t. ⌜ t ≡ someLeg r (λ l. not (inside bench (l .p)) || not (inside bench (l .q))) ⌝ }
+    ensures { λ t. ⌜ t ≡ someLeg r (λ l. not (inside tenths (l .p)) || not (inside tenths (l .q))) ⌝ }
 {
     let p = r.p;
     let q = r.q;
@@ -78,7 +78,7 @@ fn ends_differ(r: Ray) -> bool
 
 // 5 where an end coordinate is outside its bounds, 6 where the ends are equal, 0 where they are accepted.
 pub fn ends_code(r: Ray) -> u32
-    ensures { λ c. ⌜ c ≡ first (endRows bench r) ⌝ }
+    ensures { λ c. ⌜ c ≡ first (endRows tenths r) ⌝ }
 {
     if ends_out(r) {
         return 5;

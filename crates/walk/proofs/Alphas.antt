@@ -24,7 +24,7 @@ use Rattle.walk.proofs.Three.{least-le, least-one}
 use Rattle.walk.proofs.Stretch.{enterAt, leaveAt}
 use Rattle.walk.proofs.Crossing.{up-rise, down-fall}
 use Rattle.walk.proofs.Turns.{step-tick}
-use Rattle.ray.proofs.Places.{number}
+use Rattle.ray.proofs.Indices.{number}
 use Rattle.walk.proofs.Scenes.{vol, ray, way, going, leg-is, leave}
 use Rattle.walk.proofs.Walking.{Paced, Walking, start-late, here-below, here-start, soon-later, to-d, next-at}
 use Rattle.walk.proofs.Found.{walk-all}

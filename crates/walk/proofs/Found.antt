@@ -15,7 +15,7 @@ use Rattle.walk.specs.declared.steps.Strides.{Strides}
 use Rattle.walk.specs.Scene.{Able}
 use Rattle.walk.specs.Model.{soonest, stepped, Entry, entry, voxels, parts, entries, Forward}
 use Rattle.walk.proofs.Turns.{forward-on, step-tick, entries-last, entries-more}
-use Rattle.ray.proofs.Places.{number}
+use Rattle.ray.proofs.Indices.{number}
 use Rattle.walk.proofs.Scenes.{vol, ray, scene-rise, met}
 use Rattle.walk.proofs.Walking.{Paced, Walking, start-late, stop-soon, here-below, here-start, here-only, soon-later, part-more, part-last, number-kept, onAt, walking-on}
 

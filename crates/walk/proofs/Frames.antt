@@ -27,19 +27,19 @@ pub framed : (s : Scene) (fx fy fz : ℕ) (rx ry rz : Reach) (myz m lyz lxyz l :
     → myz ≡ max (ry .from) (rz .from) → m ≡ max (rx .from) myz
     → lyz ≡ min (ry .to) (rz .to) → lxyz ≡ min (rx .to) lyz → l ≡ min (fx * (fy * fz)) lxyz
     → hit ≡ (ltb m l && (rx .held && (ry .held && rz .held)))
-    → Framed s (record { cx = fy * fz; cy = fx * fz; cz = fx * fy; d = fx * (fy * fz); from = m; to = l; hit = hit })
+    → Framed s (record { cx = fy * fz; cy = fx * fz; cz = fx * fy; denominator = fx * (fy * fz); from = m; to = l; hit = hit })
 framed s fx fy fz rx ry rz myz m lyz lxyz l hit ex ey ez x y z e₁ e₂ l₁ l₂ l₃ h =
     let from : m ≡ start (rayOf s) (array (volumeOf s)) = rw (e₂, e₁, x .from-is, y .from-is, z .from-is, ex, ey, ez) refl in
     let to : l ≡ stop (rayOf s) (array (volumeOf s)) = rw (l₃, l₂, l₁, x .to-is, y .to-is, z .to-is, ex, ey, ez) refl in
     record {
       rests = sides;
-      d-is = rw (ex, ey, ez) refl;
+      denominator-is = rw (ex, ey, ez) refl;
       from-is = from;
       to-is = to;
       hit-is = rw (h, from, to, x .held-is, y .held-is, z .held-is) (hit-misses s);
     }
   where
-    sides : (o : Side) → restOf (record { cx = fy * fz; cy = fx * fz; cz = fx * fy; d = fx * (fy * fz); from = m; to = l; hit = hit }) o ≡ rest (rayOf s) o
+    sides : (o : Side) → restOf (record { cx = fy * fz; cy = fx * fz; cz = fx * fy; denominator = fx * (fy * fz); from = m; to = l; hit = hit }) o ≡ rest (rayOf s) o
     sides X = rw (ey, ez) refl
     sides Y = rw (ex, ez) refl
     sides Z = rw (ex, ey) refl

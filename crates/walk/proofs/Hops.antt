@@ -8,7 +8,7 @@ use Rattle.ray.specs.Length.{Side, X, Y, Z, Volume}
 use Rattle.walk.specs.Plan.{unit}
 use Rattle.ray.proofs.Way.{Way, up, down, still}
 use Rattle.walk.proofs.Stretch.{onward}
-use Rattle.ray.proofs.Places.{number}
+use Rattle.ray.proofs.Indices.{number}
 
 -- what the code adds for one voxel on
 abbrev pub Jump : Way → ℕ → ℕ → Type 0

@@ -5,13 +5,13 @@ use mathlib.Core.Bool.{true, false}
 use native.Mathlib.Omega.{arith}
 use borrow.Author.Tests.{lt-leb}
 use Rattle.axis.specs.Leg.{held}
-use Rattle.ray.specs.Length.{Side, X, Y, Z, leg, count, array, place, holds, start, stop, partOf, misses}
+use Rattle.ray.specs.Length.{Side, X, Y, Z, leg, count, array, index, holds, start, stop, partOf, misses}
 use Rattle.walk.specs.declared.line.Scene.{Scene}
 use Rattle.walk.specs.Scene.{line, volumeOf, rayOf, Able}
 use Rattle.ray.proofs.Way.{Way, up, down, still}
 use Rattle.walk.proofs.Units.{HeldBy}
 use Rattle.walk.proofs.Stretch.{plane-mono}
-use Rattle.ray.proofs.Places.{place-below}
+use Rattle.ray.proofs.Indices.{index-below}
 use Rattle.walk.proofs.Scenes.{way, met, there-held}
 use Rattle.walk.proofs.Walking.{start-late, stop-soon}
 
@@ -24,7 +24,7 @@ module _ (s : Scene) (able : Able s) where
   -- where a voxel holds a still coordinate the array does
   array-held : (m : ℕ) → m < count (volumeOf s) → 0 < partOf (volumeOf s) (rayOf s) m → holds (rayOf s) (array (volumeOf s)) ≡ true
   array-held m h p =
-      let in-n : (o : Side) → place (volumeOf s) m o < line s o .n = place-below (volumeOf s) m h in
+      let in-n : (o : Side) → index (volumeOf s) m o < line s o .n = index-below (volumeOf s) m h in
       let t : (o : Side) → held (leg (rayOf s) o) (array (volumeOf s) o) ≡ true = λ o. there-held s o 0 (line s o .n)
       (held-wider (way s o) (line s o .p) (plane-mono (line s o) (omega arith)) (plane-mono (line s o) (omega (arith, in-n o))) (met s m p .whole o)) in
       rw (t X, t Y, t Z) refl

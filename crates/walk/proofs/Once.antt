@@ -1,5 +1,5 @@
 -- Two answers allowed by a promise are equal, and so are the lists it leaves. A promise that is one equation is a case of `once`; here stand
--- the functions that path calls, and those of an axis whose promise is no single equation. Assumes nothing.
+-- the functions that tracing calls, and those of an axis whose promise is no single equation. Assumes nothing.
 use Prim.Native.Nat.{ℕ, _+_, _-_, _*_, _^_, _≤_, _<_}
 use mathlib.Core.Path.{_≡_, sym, ap, _∙_}
 use mathlib.Core.List.{List, _++_}
@@ -56,7 +56,7 @@ frame-once s f f′ x y = λ i. record {
   cx = once (x .rests X) (y .rests X) i;
   cy = once (x .rests Y) (y .rests Y) i;
   cz = once (x .rests Z) (y .rests Z) i;
-  d = once (x .d-is) (y .d-is) i;
+  denominator = once (x .denominator-is) (y .denominator-is) i;
   from = once (x .from-is) (y .from-is) i;
   to = once (x .to-is) (y .to-is) i;
   hit = once (x .hit-is) (y .hit-is) i;

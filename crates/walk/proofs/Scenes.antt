@@ -9,7 +9,7 @@ use borrow.Author.Tests.{le-leb}
 use Rattle.axis.proofs.Flag.{and-left, and-right}
 use Rattle.ray.proofs.Planes.{Rise}
 use Rattle.ray.specs.declared.Ray.{Ray}
-use Rattle.ray.specs.Length.{Side, X, Y, Z, leg, rest, dOf, Volume, array, place, voxel, holds, start, stop, partOf}
+use Rattle.ray.specs.Length.{Side, X, Y, Z, leg, rest, dOf, Volume, array, index, voxel, holds, start, stop, partOf}
 use Rattle.walk.specs.declared.line.Scene.{Scene}
 use Rattle.walk.specs.Scene.{legN, slabN, plane, line, volumeOf, rayOf}
 use Rattle.ray.proofs.Way.{Way, Goes, way as goes}
@@ -55,12 +55,12 @@ module _ (s : Scene) where
     leaves-at : leaves (rest ray o) (leg ray o) (slabN (plane (line s o) i) (plane (line s o) j)) ≡ leave o i j
     leaves-at = rw (leg-is o) (leaves-is (way o) (line s o .p) (line s o .q) (plane (line s o) i) (plane (line s o) j) (rest ray o) (going o) (plane-mono (line s o) h))
 
-  pub start-voxel : (m : ℕ) → start ray (voxel vol m) ≡ most (λ o. enter o (place vol m o) (place vol m o + 1))
-  start-voxel m = most-same (λ o. enters (rest ray o) (leg ray o) (voxel vol m o)) _ (λ o. enters-at o (place vol m o) (place vol m o + 1) (omega arith))
+  pub start-voxel : (m : ℕ) → start ray (voxel vol m) ≡ most (λ o. enter o (index vol m o) (index vol m o + 1))
+  start-voxel m = most-same (λ o. enters (rest ray o) (leg ray o) (voxel vol m o)) _ (λ o. enters-at o (index vol m o) (index vol m o + 1) (omega arith))
 
-  pub stop-voxel : (m : ℕ) → stop ray (voxel vol m) ≡ min (dOf ray) (least (λ o. leave o (place vol m o) (place vol m o + 1)))
+  pub stop-voxel : (m : ℕ) → stop ray (voxel vol m) ≡ min (dOf ray) (least (λ o. leave o (index vol m o) (index vol m o + 1)))
   stop-voxel m =
-      ap (min (dOf ray)) (least-same (λ o. leaves (rest ray o) (leg ray o) (voxel vol m o)) _ (λ o. leaves-at o (place vol m o) (place vol m o + 1) (omega arith)))
+      ap (min (dOf ray)) (least-same (λ o. leaves (rest ray o) (leg ray o) (voxel vol m o)) _ (λ o. leaves-at o (index vol m o) (index vol m o + 1) (omega arith)))
 
   pub start-array : start ray (array vol) ≡ most (λ o. enter o 0 (line s o .n))
   start-array = most-same (λ o. enters (rest ray o) (leg ray o) (array vol o)) _ (λ o. enters-at o 0 (line s o .n) (omega arith))
@@ -82,12 +82,12 @@ module _ (s : Scene) where
       → held (leg ray o) (slabN (plane (line s o) i) (plane (line s o) j)) ≡ true
   there-held o i j h = rw (leg-is o) (by-held (way o) (line s o .p) (line s o .q) _ _ (going o) h)
 
-  pub held-voxel : (m : ℕ) → holds ray (voxel vol m) ≡ true → (o : Side) → Held o (place vol m o)
-  held-voxel m h o = held-there o (place vol m o) (place vol m o + 1) (all-held (λ x. held (leg ray x) (voxel vol m x)) h o)
+  pub held-voxel : (m : ℕ) → holds ray (voxel vol m) ≡ true → (o : Side) → Held o (index vol m o)
+  held-voxel m h o = held-there o (index vol m o) (index vol m o + 1) (all-held (λ x. held (leg ray x) (voxel vol m x)) h o)
 
-  pub voxel-held : (m : ℕ) → ((o : Side) → Held o (place vol m o)) → holds ray (voxel vol m) ≡ true
+  pub voxel-held : (m : ℕ) → ((o : Side) → Held o (index vol m o)) → holds ray (voxel vol m) ≡ true
   voxel-held m h =
-      let t : (o : Side) → held (leg ray o) (voxel vol m o) ≡ true = λ o. there-held o (place vol m o) (place vol m o + 1) (h o) in
+      let t : (o : Side) → held (leg ray o) (voxel vol m o) ≡ true = λ o. there-held o (index vol m o) (index vol m o + 1) (h o) in
       rw (t X, t Y, t Z) refl
 
   -- ---- the rest of D
@@ -106,7 +106,7 @@ module _ (s : Scene) where
 
   -- ---- a part above zero, taken apart
   pub record Met (m : ℕ) : Type 0 where
-    pub whole : (o : Side) → Held o (place vol m o)
+    pub whole : (o : Side) → Held o (index vol m o)
     pub proper : start ray (voxel vol m) < stop ray (voxel vol m)
 
   met-by : (m : ℕ) (b : Bool) → holds ray (voxel vol m) ≡ b → 0 < cond b (stop ray (voxel vol m) - start ray (voxel vol m)) 0 → Met m
@@ -117,6 +117,6 @@ module _ (s : Scene) where
   unfolding partOf
   met m h = met-by m (holds ray (voxel vol m)) refl h
 
-  pub part-met : (m : ℕ) → ((o : Side) → Held o (place vol m o)) → partOf vol ray m ≡ stop ray (voxel vol m) - start ray (voxel vol m)
+  pub part-met : (m : ℕ) → ((o : Side) → Held o (index vol m o)) → partOf vol ray m ≡ stop ray (voxel vol m) - start ray (voxel vol m)
   unfolding partOf
   part-met m h = rw (voxel-held m h) refl

@@ -39,7 +39,7 @@ frame s = record {
   cx = rest (rayOf s) X;
   cy = rest (rayOf s) Y;
   cz = rest (rayOf s) Z;
-  d = dOf (rayOf s);
+  denominator = dOf (rayOf s);
   from = start (rayOf s) (array (volumeOf s));
   to = stop (rayOf s) (array (volumeOf s));
   hit = not (misses (volumeOf s) (rayOf s));
@@ -51,7 +51,7 @@ rest-at s Y = refl
 rest-at s Z = refl
 
 pub framed : (s : Scene) → Framed s (frame s)
-framed s = record { rests = rest-at s; d-is = refl; from-is = refl; to-is = refl; hit-is = refl }
+framed s = record { rests = rest-at s; denominator-is = refl; from-is = refl; to-is = refl; hit-is = refl }
 
 -- one voxel on, and one back
 abbrev jump : (p q u : ℕ) → ℕ

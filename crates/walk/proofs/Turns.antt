@@ -165,17 +165,17 @@ none-filled s to w vs ps f h k = record {
 }
 
 module _ (s : Strides) (to : ℕ) (es : List Entry) (w : Walk) (r : ℕ) (vs ps vs₀ ps₀ : List ℕ) (g : Filling s to es w r vs ps vs₀ ps₀) where
-  pub place-v : r < length vs
-  place-v = omega (arith, counted-below s to es w r (g .counting), g .voxels-so .size, g .room-v)
+  pub index-v : r < length vs
+  index-v = omega (arith, counted-below s to es w r (g .counting), g .voxels-so .size, g .room-v)
 
-  pub place-p : r < length ps
-  place-p = omega (arith, counted-below s to es w r (g .counting), g .parts-so .size, g .room-p)
+  pub index-p : r < length ps
+  index-p = omega (arith, counted-below s to es w r (g .counting), g .parts-so .size, g .room-p)
 
   pub last-filled : to ≤ soonest w → Filled es (r + 1) (set vs r (w .v % 2 ^ 32)) (set ps r (to - w .t)) vs₀ ps₀
   last-filled h =
       let e : entries s to w ≡ entry w to ∷ [] = entries-last s to w (g .counting .forward) h in
-      let v = one-written (voxels es) [] (w .v % 2 ^ 32) r vs vs₀ (rw e at (g .voxels-so)) place-v in
-      let p = one-written (parts es) [] (to - w .t) r ps ps₀ (rw e at (g .parts-so)) place-p in
+      let v = one-written (voxels es) [] (w .v % 2 ^ 32) r vs vs₀ (rw e at (g .voxels-so)) index-v in
+      let p = one-written (parts es) [] (to - w .t) r ps ps₀ (rw e at (g .parts-so)) index-p in
       record {
         number = last-counted s to es w r (g .counting) h;
         voxels-are = all-written _ _ _ vs₀ v;
@@ -189,8 +189,8 @@ module _ (s : Strides) (to : ℕ) (es : List Entry) (w : Walk) (r : ℕ) (vs ps 
       let e : entries s to w ≡ entry w (soonest w) ∷ entries s to (stepped s w) = entries-more s to w (g .counting .forward) h in
       record {
         counting = one-counted s to es w r (g .counting) h;
-        voxels-so = one-written (voxels es) (voxels (entries s to (stepped s w))) (w .v % 2 ^ 32) r vs vs₀ (rw e at (g .voxels-so)) place-v;
-        parts-so = one-written (parts es) (parts (entries s to (stepped s w))) (soonest w - w .t) r ps ps₀ (rw e at (g .parts-so)) place-p;
+        voxels-so = one-written (voxels es) (voxels (entries s to (stepped s w))) (w .v % 2 ^ 32) r vs vs₀ (rw e at (g .voxels-so)) index-v;
+        parts-so = one-written (parts es) (parts (entries s to (stepped s w))) (soonest w - w .t) r ps ps₀ (rw e at (g .parts-so)) index-p;
         room-v = g .room-v;
         room-p = g .room-p;
       }

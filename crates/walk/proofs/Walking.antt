@@ -7,7 +7,7 @@ use native.Mathlib.Omega.{arith}
 use native.Mathlib.Nat.{le-antisymm, le-of-eq, le-trans, lt-of-lt-of-le, lt-of-le-of-lt, mul-pos, mod-eq-of-lt}
 use lib.Dec.{eqb}
 use borrow.Author.Tests.{eq-eqb, eqb-true, eqb-false}
-use Rattle.ray.specs.Length.{Side, X, Y, Z, rest, dOf, count, array, place, voxel, start, stop, partOf}
+use Rattle.ray.specs.Length.{Side, X, Y, Z, rest, dOf, count, array, index, voxel, start, stop, partOf}
 use Rattle.walk.specs.declared.line.Scene.{Scene}
 use Rattle.walk.specs.declared.steps.Walk.{Walk}
 use Rattle.walk.specs.declared.steps.Strides.{Strides}
@@ -18,7 +18,7 @@ use Rattle.ray.proofs.Way.{Way, up, down, still}
 use Rattle.walk.proofs.Units.{HeldBy}
 use Rattle.walk.proofs.Three.{most, least, most-le, le-most, least-le, least-one, lt-least, least-mono, most-mono, most-same, least-same}
 use Rattle.walk.proofs.Stretch.{onward, Next, next, enter-whole, leave-whole, one-voxel}
-use Rattle.ray.proofs.Places.{number, place-number, number-below, place-below, place-same}
+use Rattle.ray.proofs.Indices.{number, index-number, number-below, index-below, index-same}
 use Rattle.walk.proofs.Scenes.{vol, ray, way, enter, leave, Held, start-voxel, stop-voxel, start-array, stop-array, met, part-met, rest-some}
 use Rattle.walk.proofs.Hops.{Jump, Left, number-small, all-over}
 
@@ -47,36 +47,36 @@ module _ (s : Scene) (able : Able s) where
   pub start-late : (m : ℕ) → m < count (vol s) → start (ray s) (array (vol s)) ≤ start (ray s) (voxel (vol s) m)
   start-late m h =
       rw (start-array s, start-voxel s m)
-      (most-mono _ _ (λ o. enter-whole (way s o) (line s o) (rest (ray s) o) (place (vol s) m o) (place-below (vol s) m h o)))
+      (most-mono _ _ (λ o. enter-whole (way s o) (line s o) (rest (ray s) o) (index (vol s) m o) (index-below (vol s) m h o)))
 
   pub stop-soon : (m : ℕ) → m < count (vol s) → stop (ray s) (voxel (vol s) m) ≤ stop (ray s) (array (vol s))
   stop-soon m h =
       rw (stop-array s, stop-voxel s m)
       (omega (
         arith,
-        least-mono (λ o. leave s o (place (vol s) m o) (place (vol s) m o + 1)) (λ o. leave s o 0 (line s o .n))
-            (λ o. leave-whole (way s o) (line s o) (rest (ray s) o) (place (vol s) m o) (place-below (vol s) m h o)),
+        least-mono (λ o. leave s o (index (vol s) m o) (index (vol s) m o + 1)) (λ o. leave s o 0 (line s o .n))
+            (λ o. leave-whole (way s o) (line s o) (rest (ray s) o) (index (vol s) m o) (index-below (vol s) m h o)),
       ))
 
   -- a tick within a voxel that has a part is within its stretch on every axis
   pub record Through (m t : ℕ) : Type 0 where
-    pub whole : (o : Side) → Held s o (place (vol s) m o)
-    pub since : (o : Side) → enter s o (place (vol s) m o) (place (vol s) m o + 1) ≤ t
-    pub until : (o : Side) → t < leave s o (place (vol s) m o) (place (vol s) m o + 1)
+    pub whole : (o : Side) → Held s o (index (vol s) m o)
+    pub since : (o : Side) → enter s o (index (vol s) m o) (index (vol s) m o + 1) ≤ t
+    pub until : (o : Side) → t < leave s o (index (vol s) m o) (index (vol s) m o + 1)
 
   pub through : (m t : ℕ) → 0 < partOf (vol s) (ray s) m → start (ray s) (voxel (vol s) m) ≤ t → t < stop (ray s) (voxel (vol s) m) → Through m t
   through m t p a b = record {
     whole = met s m p .whole;
-    since = λ o. le-trans (le-most (λ x. enter s x (place (vol s) m x) (place (vol s) m x + 1)) o) (rw (start-voxel s m) at a);
-    until = λ o. lt-of-lt-of-le (under-least (dOf (ray s)) t _ (rw (stop-voxel s m) at b)) (least-le (λ x. leave s x (place (vol s) m x) (place (vol s) m x + 1)) o);
+    since = λ o. le-trans (le-most (λ x. enter s x (index (vol s) m x) (index (vol s) m x + 1)) o) (rw (start-voxel s m) at a);
+    until = λ o. lt-of-lt-of-le (under-least (dOf (ray s)) t _ (rw (stop-voxel s m) at b)) (least-le (λ x. leave s x (index (vol s) m x) (index (vol s) m x + 1)) o);
   }
 
   -- two voxels with a part that a tick is within are one
   one-through : (m n t : ℕ) → Through m t → Through n t → m ≡ n
   one-through m n t a b =
-      let same : (o : Side) → place (vol s) m o ≡ place (vol s) n o = λ o. one-voxel (way s o) (line s o) (rest (ray s) o) (able .sized o .wide)
+      let same : (o : Side) → index (vol s) m o ≡ index (vol s) n o = λ o. one-voxel (way s o) (line s o) (rest (ray s) o) (able .sized o .wide)
       (a .whole o) (b .whole o) (a .since o) (a .until o) (b .since o) (b .until o) in
-      place-same (vol s) m n same
+      index-same (vol s) m n same
 
   -- ---- the voxel that the walk is in
   module _ (w : Walk) (at : Side → ℕ) (on : Walking s w at) where
@@ -86,19 +86,19 @@ module _ (s : Scene) (able : Able s) where
     abbrev to : ℕ
     to = stop (ray s) (array (vol s))
 
-    there : (o : Side) → place (vol s) here o ≡ at o
-    there = place-number (vol s) at (on .inside)
+    there : (o : Side) → index (vol s) here o ≡ at o
+    there = index-number (vol s) at (on .inside)
 
     pub here-below : here < count (vol s)
     here-below = number-below (vol s) at (on .inside)
 
     pub here-start : start (ray s) (voxel (vol s) here) ≡ w .t
-    here-start = start-voxel s here ∙ most-same (λ o. enter s o (place (vol s) here o) (place (vol s) here o + 1)) (λ o. enter s o (at o) (at o + 1)) (λ o. rw (there o) refl) ∙ on .newest
+    here-start = start-voxel s here ∙ most-same (λ o. enter s o (index (vol s) here o) (index (vol s) here o + 1)) (λ o. enter s o (at o) (at o + 1)) (λ o. rw (there o) refl) ∙ on .newest
 
     here-stop : stop (ray s) (voxel (vol s) here) ≡ min (dOf (ray s)) (soonest w)
-    here-stop = stop-voxel s here ∙ ap (min (dOf (ray s))) (least-same (λ o. leave s o (place (vol s) here o) (place (vol s) here o + 1)) (leaveOf w) (λ o. rw (there o) (sym (on .leaves o))))
+    here-stop = stop-voxel s here ∙ ap (min (dOf (ray s))) (least-same (λ o. leave s o (index (vol s) here o) (index (vol s) here o + 1)) (leaveOf w) (λ o. rw (there o) (sym (on .leaves o))))
 
-    here-held : (o : Side) → Held s o (place (vol s) here o)
+    here-held : (o : Side) → Held s o (index (vol s) here o)
     here-held o = rw (there o) (on .held o)
 
     pub soon-later : w .t < soonest w

@@ -41,7 +41,7 @@ restOf f Z = f .cz
 -- D, αmin and αmax times D, and whether the ray hits
 pub record Framed (s : Scene) (f : Frame) : Type 0 where
   pub rests : (o : Side) → restOf f o ≡ rest (rayOf s) o
-  pub d-is : f .d ≡ dOf (rayOf s)
+  pub denominator-is : f .denominator ≡ dOf (rayOf s)
   pub from-is : f .from ≡ start (rayOf s) (array (volumeOf s))
   pub to-is : f .to ≡ stop (rayOf s) (array (volumeOf s))
   pub hit-is : f .hit ≡ not (misses (volumeOf s) (rayOf s))

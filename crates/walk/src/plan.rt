@@ -18,7 +18,7 @@ pub struct Frame {
     pub cx: u64,
     pub cy: u64,
     pub cz: u64,
-    pub d: u64,
+    pub denominator: u64,
     pub from: u64,
     pub to: u64,
     pub hit: bool,
@@ -57,18 +57,18 @@ pub fn frame_of(s: Scene) -> Frame
     let cx = fy * fz;
     let cy = fx * fz;
     let cz = fx * fy;
-    let d = fx * cx;
+    let denominator = fx * cx;
     let rx = x.reach(cx);
     let ry = y.reach(cy);
     let rz = z.reach(cz);
     let from = most(rx.from, most(ry.from, rz.from));
-    let to = least(d, least(rx.to, least(ry.to, rz.to)));
+    let to = least(denominator, least(rx.to, least(ry.to, rz.to)));
     let hit = hits(rx, ry, rz, from, to);
     Frame {
         cx,
         cy,
         cz,
-        d,
+        denominator,
         from,
         to,
         hit,

@@ -1,6 +1,6 @@
 -- `outside_append` meets its contract. Assumes nothing.
 use mathlib.Core.Path.{ap, _∙_}
-use Rattle.path.specs.declared.Trace.{Trace}
+use Rattle.tracing.specs.declared.Trace.{Trace}
 use Rattle.ilvoresta.proofs.Again.{grid-again, ray-again}
 use Rattle.ilvoresta.proofs.Answered.{sixIn}
 use Rattle.outside.specs.Doors.{put, Appended}

@@ -5,7 +5,7 @@ use lib.Signed.{leZ}
 use mir.Syntax.{w32}
 use mir.ValLaws.{toZ-ofZ}
 use borrow.Author.Needs.{needs}
-use Rattle.axis.specs.Codes.{bench}
+use Rattle.axis.specs.Codes.{tenths}
 use Rattle.axis.proofs.Axis.holds.Statement.{statement}
 use Rattle.axis.proofs.Axis.holds.Tie as tie
 
@@ -18,7 +18,7 @@ sub-if1 c = search needs
 returns : tie.Need-returns
 returns c =
     let e = toZ-ofZ w32 (c .before .args .c) (c .before .fits .c) in
-    let low : leZ (negℤ (pos (bench .coord))) (c .before .args .c) ≡ true = rw e at (c .if1 .taken) in
+    let low : leZ (negℤ (pos (tenths .coord))) (c .before .args .c) ≡ true = rw e at (c .if1 .taken) in
     rw (e, low)
 
 returns-2 : tie.Need-returns-2

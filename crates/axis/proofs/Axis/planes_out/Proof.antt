@@ -5,7 +5,7 @@ use native.Mathlib.Nat.{mul-le-mul}
 use native.Mathlib.Omega.{arith}
 use mir.Syntax.{w32}
 use mir.Val.{toZ, ofZ}
-use Rattle.axis.specs.Codes.{bench, inside}
+use Rattle.axis.specs.Codes.{tenths, inside}
 use Rattle.axis.proofs.Flag.{lt-not-le}
 use Rattle.axis.proofs.Shift.{shift}
 use Rattle.axis.proofs.Bounds.{far-inside, inside-most}
@@ -16,7 +16,7 @@ use Rattle.axis.proofs.Axis.planes_out.Tie as tie
 area : (c : tie.After-struct-known2) → c .before .before .before .before .before .before .args .self .n * c .before .before .before .before .before .before .args .self .d ≤ 4294967295 * 4294967295
 area c = mul-le-mul {n₂ = 4294967295} {m₂ = 4294967295} (omega arith) (omega arith)
 
-near : (c : tie.After-struct-known2) → inside bench (c .before .before .before .before .before .before .args .self .b) ≡ true
+near : (c : tie.After-struct-known2) → inside tenths (c .before .before .before .before .before .before .args .self .b) ≡ true
 near c =
     let b = c .before .before .before .before .before .before .args .self .b in
     let e : toZ w32 (ofZ w32 b) ≡ b = search needs in
@@ -44,7 +44,7 @@ mul-far : tie.Need-mul-far
 mul-far c = record { fits = omega (arith, area c) }
 
 add-far : tie.Need-add-far
-add-far c = record { fits = omega (arith, area c, first-is c, inside-most bench (c .before .before .before .before .before .before .args .self .b) (near c)) }
+add-far c = record { fits = omega (arith, area c, first-is c, inside-most tenths (c .before .before .before .before .before .before .args .self .b) (near c)) }
 
 cast-top : tie.Need-cast-top
 cast-top c = search needs
@@ -55,7 +55,7 @@ mul-top c = search needs
 returns : tie.Need-returns
 returns c =
     let a = c .before .before .before .before .before .before .args .self in
-    rw (first-is c, near c, far-inside bench (a .b) (a .n * a .d) (near c)) (lt-not-le 32768 (shift 16384 (a .b) + a .n * a .d))
+    rw (first-is c, near c, far-inside tenths (a .b) (a .n * a .d) (near c)) (lt-not-le 32768 (shift 16384 (a .b) + a .n * a .d))
 
 returns-2 : tie.Need-returns-2
 returns-2 c =

@@ -2,7 +2,7 @@
 use mathlib.Core.Path.{_≡_, refl, sym, _∙_}
 use native.Mathlib.Omega.{arith}
 use borrow.Author.Tests.{ne-eqb, lt-ltb, le-ltb}
-use Rattle.axis.specs.Codes.{bench, first}
+use Rattle.axis.specs.Codes.{tenths, first}
 use Rattle.ray.specs.Length.{volume, count}
 use Rattle.ray.specs.Codes.{gridRows}
 use Rattle.job.proofs.Taking.{code-then, sides, rows-fit, voxels-fit}
@@ -32,13 +32,13 @@ mul-if2-2 c =
 returns-2 : tie.Need-returns-2
 returns-2 c =
     let g = c .before .before .before .before .before .before .before .before .before .args .g in
-    let e : first (gridRows bench g) ≡ 0 = sym (c .before .before .before .before .before .before .before .before .grid-code .ensures) ∙ c .before .before .before .before .before .before .before .if1 .left in
+    let e : first (gridRows tenths g) ≡ 0 = sym (c .before .before .before .before .before .before .before .before .grid-code .ensures) ∙ c .before .before .before .before .before .before .before .if1 .left in
     sym (code-then g ∙ rw (e, lt-ltb 4096 (count (volume g)) (c .if2 .taken)) refl)
 
 returns-3 : tie.Need-returns-3
 returns-3 c =
     let g = c .before .before .before .before .before .before .before .before .before .args .g in
-    let e : first (gridRows bench g) ≡ 0 = sym (c .before .before .before .before .before .before .before .before .grid-code .ensures) ∙ c .before .before .before .before .before .before .before .if1 .left in
+    let e : first (gridRows tenths g) ≡ 0 = sym (c .before .before .before .before .before .before .before .before .grid-code .ensures) ∙ c .before .before .before .before .before .before .before .if1 .left in
     sym (code-then g ∙ rw (e, le-ltb 4096 (count (volume g)) (c .if2 .left)) refl)
 
 pub taken-code-spec : {M : Type 1} → statement M

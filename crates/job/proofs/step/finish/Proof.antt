@@ -30,8 +30,8 @@ returns c =
     let put = c .before .before .put-line in
     (omega (arith, put .ensures .0), λ line densities b. put .ensures .1 ∙ ap (λ (l : List ℕ). take (a .at) (a .out .now) ++ l) (sym (end-short (a .st) line densities b (c .before .before .before .before .before .before .before .if1 .taken))))
 
-place-requires : tie.Need-place-requires
-place-requires c κs = search needs
+due-requires : tie.Need-due-requires
+due-requires c κs = search needs
 
 slice-aggregate-put-line-3 : tie.Need-slice-aggregate-put-line-3
 slice-aggregate-put-line-3 c = search needs
@@ -39,7 +39,7 @@ slice-aggregate-put-line-3 c = search needs
 add-t22 : tie.Need-add-t22
 add-t22 c =
     let s = c .before .before .before .before .before .before .before .before in
-    omega (arith, early-number (s .args .st) (s .pre .0) (λ e. c .before .before .before .if2 .taken (c .before .before .before .before .place .ensures ∙ e)))
+    omega (arith, early-number (s .args .st) (s .pre .0) (λ e. c .before .before .before .if2 .taken (c .before .before .before .before .due .ensures ∙ e)))
 
 slice-aggregate-put-line-4 : tie.Need-slice-aggregate-put-line-4
 slice-aggregate-put-line-4 c = search needs
@@ -54,7 +54,7 @@ returns-2 : tie.Need-returns-2
 returns-2 c =
     let a = c .before .before .before .before .before .before .before .before .before .before .before .before .args in
     let put = c .before .before .put-line2 in
-    (omega (arith, put .ensures .0), λ line densities b. put .ensures .1 ∙ ap (λ (l : List ℕ). take (a .at) (a .out .now) ++ l) (sym (end-early (a .st) line densities b (c .before .before .before .before .before .before .before .before .before .if1 .left) (λ e. c .before .before .before .before .before .before .before .if2 .taken (c .before .before .before .before .before .before .before .before .place .ensures ∙ e)))))
+    (omega (arith, put .ensures .0), λ line densities b. put .ensures .1 ∙ ap (λ (l : List ℕ). take (a .at) (a .out .now) ++ l) (sym (end-early (a .st) line densities b (c .before .before .before .before .before .before .before .before .before .if1 .left) (λ e. c .before .before .before .before .before .before .before .if2 .taken (c .before .before .before .before .before .before .before .before .due .ensures ∙ e)))))
 
 slice-aggregate-put-line-5 : tie.Need-slice-aggregate-put-line-5
 slice-aggregate-put-line-5 c = search needs
@@ -72,7 +72,7 @@ returns-3 : tie.Need-returns-3
 returns-3 c =
     let a = c .before .before .before .before .before .before .before .before .before .before .before .args in
     let put = c .before .before .put-line3 in
-    (omega (arith, put .ensures .0), λ line densities b. put .ensures .1 ∙ ap (λ (l : List ℕ). take (a .at) (a .out .now) ++ l) (sym (end-well (a .st) line densities b (c .before .before .before .before .before .before .before .before .if1 .left) (sym (c .before .before .before .before .before .before .before .place .ensures) ∙ c .before .before .before .before .before .before .if2 .left))))
+    (omega (arith, put .ensures .0), λ line densities b. put .ensures .1 ∙ ap (λ (l : List ℕ). take (a .at) (a .out .now) ++ l) (sym (end-well (a .st) line densities b (c .before .before .before .before .before .before .before .before .if1 .left) (sym (c .before .before .before .before .before .before .before .due .ensures) ∙ c .before .before .before .before .before .before .if2 .left))))
 
 pub finish-spec : {M : Type 1} → statement M
 finish-spec =
@@ -84,7 +84,7 @@ finish-spec =
     put-line-requires
     same-length
     returns
-    place-requires
+    due-requires
     slice-aggregate-put-line-3
     add-t22
     slice-aggregate-put-line-4

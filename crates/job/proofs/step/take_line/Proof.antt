@@ -1,20 +1,20 @@
--- `job::step::take_line` meets its contract. `Places` has a law for each place. Assumes nothing.
+-- `job::step::take_line` meets its contract. `Due` has a law for each kind of line. Assumes nothing.
 use Prim.Native.Nat.{ℕ}
 use mathlib.Core.Path.{_≡_, sym, ap, _∙_}
 use lib.ListN.{take}
 use Rattle.axis.specs.Codes.{first}
 use Rattle.text.specs.Split.{split}
-use Rattle.job.specs.Stand.{placeAt, standOf}
+use Rattle.job.specs.Stand.{dueAt, standOf}
 use Rattle.job.specs.Line.{headRows}
 use Rattle.job.specs.Sound.{after}
 use Rattle.job.proofs.Steps.{stopped}
-use Rattle.job.proofs.Places.{grid-place, dens-place, ray-place, line-refused, grid-line, dens-line, ray-line}
+use Rattle.job.proofs.Due.{grid-due, dens-due, ray-due, line-refused, grid-line, dens-line, ray-line}
 use borrow.Author.Needs.{needs}
 use Rattle.job.proofs.step.take_line.Statement.{statement}
 use Rattle.job.proofs.step.take_line.Tie as tie
 
-place-requires : tie.Need-place-requires
-place-requires c κs = search needs
+due-requires : tie.Need-due-requires
+due-requires c κs = search needs
 
 head-code-requires : tie.Need-head-code-requires
 head-code-requires c κs = search needs
@@ -29,18 +29,18 @@ returns : tie.Need-returns
 returns c =
     let s = c .before .before .before .before .before .before .before .before .before .before .before in
     let a = s .args in
-    let place = c .before .before .before .before .before .before .before .place in
+    let due = c .before .before .before .before .before .before .before .due in
     let code = c .before .before .before .before .before .head-code in
     let st = standOf (a .st) (a .densities .now) in
     let p = take (a .at) (a .out .now) in
-    let head : code .result ≡ first (headRows (placeAt (st .lines) (st .left)) (st .grid .x .n) (split 9 (a .line .now))) = code .ensures ∙ ap (λ (n : ℕ). first (headRows n (a .st .grid .x .n) (split 9 (a .line .now)))) (place .ensures) in
+    let head : code .result ≡ first (headRows (dueAt (st .lines) (st .left)) (st .grid .x .n) (split 9 (a .line .now))) = code .ensures ∙ ap (λ (n : ℕ). first (headRows n (a .st .grid .x .n) (split 9 (a .line .now)))) (due .ensures) in
     let no = c .before .before .refuse in
     (no .ensures .0 .2, stopped p (standOf (no .result .state) (a .densities .now)) (no .ensures .0 .1) (no .ensures .1) (line-refused st (a .line .now) (s .pre .3) (code .result) head (c .before .before .before .before .if1 .taken)))
 
 take-grid-requires : tie.Need-take-grid-requires
 take-grid-requires c κs =
     let s = c .before .before .before .before .before .before .before .before .before in
-    (s .pre .0, s .pre .1, grid-place (s .args .st .lines) (s .args .st .left) (sym (c .before .before .before .before .before .place .ensures) ∙ c .before .if2 .taken))
+    (s .pre .0, s .pre .1, grid-due (s .args .st .lines) (s .args .st .left) (sym (c .before .before .before .before .before .due .ensures) ∙ c .before .if2 .taken))
 
 same-length-2 : tie.Need-same-length-2
 same-length-2 c = search needs
@@ -49,18 +49,18 @@ returns-2 : tie.Need-returns-2
 returns-2 c =
     let s = c .before .before .before .before .before .before .before .before .before .before .before .before in
     let a = s .args in
-    let place = c .before .before .before .before .before .before .before .before .place in
+    let due = c .before .before .before .before .before .before .before .before .due in
     let code = c .before .before .before .before .before .before .head-code in
     let st = standOf (a .st) (a .densities .now) in
     let p = take (a .at) (a .out .now) in
-    let head : code .result ≡ first (headRows (placeAt (st .lines) (st .left)) (st .grid .x .n) (split 9 (a .line .now))) = code .ensures ∙ ap (λ (n : ℕ). first (headRows n (a .st .grid .x .n) (split 9 (a .line .now)))) (place .ensures) in
+    let head : code .result ≡ first (headRows (dueAt (st .lines) (st .left)) (st .grid .x .n) (split 9 (a .line .now))) = code .ensures ∙ ap (λ (n : ℕ). first (headRows n (a .st .grid .x .n) (split 9 (a .line .now)))) (due .ensures) in
     let m = c .before .before .take-grid in
-    (m .ensures .0, m .ensures .1 (a .densities .now) ∙ ap (after p) (sym (grid-line st (a .line .now) (s .pre .3) (code .result) head (c .before .before .before .before .before .if1 .left) (sym (place .ensures) ∙ c .before .before .before .before .if2 .taken))))
+    (m .ensures .0, m .ensures .1 (a .densities .now) ∙ ap (after p) (sym (grid-line st (a .line .now) (s .pre .3) (code .result) head (c .before .before .before .before .before .if1 .left) (sym (due .ensures) ∙ c .before .before .before .before .if2 .taken))))
 
 take-dens-requires : tie.Need-take-dens-requires
 take-dens-requires c κs =
     let s = c .before .before .before .before .before .before .before .before .before .before .before in
-    let known = dens-place (s .args .st .lines) (s .args .st .left) (sym (c .before .before .before .before .before .before .before .place .ensures) ∙ c .before .before .if3 .taken) in
+    let known = dens-due (s .args .st .lines) (s .args .st .left) (sym (c .before .before .before .before .before .before .before .due .ensures) ∙ c .before .before .if3 .taken) in
     (s .pre .0, s .pre .1, known .0, known .1, s .pre .2)
 
 same-length-3 : tie.Need-same-length-3
@@ -73,19 +73,19 @@ returns-3 : tie.Need-returns-3
 returns-3 c =
     let s = c .before .before .before .before .before .before .before .before .before .before .before .before .before .before .before .before in
     let a = s .args in
-    let place = c .before .before .before .before .before .before .before .before .before .before .before .before .place in
+    let due = c .before .before .before .before .before .before .before .before .before .before .before .before .due in
     let code = c .before .before .before .before .before .before .before .before .before .before .head-code in
     let st = standOf (a .st) (a .densities .now) in
     let p = take (a .at) (a .out .now) in
-    let head : code .result ≡ first (headRows (placeAt (st .lines) (st .left)) (st .grid .x .n) (split 9 (a .line .now))) = code .ensures ∙ ap (λ (n : ℕ). first (headRows n (a .st .grid .x .n) (split 9 (a .line .now)))) (place .ensures) in
+    let head : code .result ≡ first (headRows (dueAt (st .lines) (st .left)) (st .grid .x .n) (split 9 (a .line .now))) = code .ensures ∙ ap (λ (n : ℕ). first (headRows n (a .st .grid .x .n) (split 9 (a .line .now)))) (due .ensures) in
     let m = c .before .before .before .before .take-dens in
-    (m .ensures .0, m .ensures .1 ∙ ap (after p) (sym (dens-line st (a .line .now) (s .pre .3) (code .result) head (c .before .before .before .before .before .before .before .before .before .if1 .left) (sym (place .ensures) ∙ c .before .before .before .before .before .before .before .if3 .taken))))
+    (m .ensures .0, m .ensures .1 ∙ ap (after p) (sym (dens-line st (a .line .now) (s .pre .3) (code .result) head (c .before .before .before .before .before .before .before .before .before .if1 .left) (sym (due .ensures) ∙ c .before .before .before .before .before .before .before .if3 .taken))))
 
 take-ray-requires : tie.Need-take-ray-requires
 take-ray-requires c κs =
     let s = c .before .before .before .before .before .before .before .before .before .before .before in
-    let place = c .before .before .before .before .before .before .before .place in
-    let known = ray-place (s .args .st .lines) (s .args .st .left) (λ e. c .before .before .before .if2 .left (place .ensures ∙ e)) (λ e. c .before .before .if3 .left (place .ensures ∙ e)) in
+    let due = c .before .before .before .before .before .before .before .due in
+    let known = ray-due (s .args .st .lines) (s .args .st .left) (λ e. c .before .before .before .if2 .left (due .ensures ∙ e)) (λ e. c .before .before .if3 .left (due .ensures ∙ e)) in
     (s .pre .0, s .pre .1, known .0, known .1, s .pre .2)
 
 same-length-5 : tie.Need-same-length-5
@@ -98,19 +98,19 @@ returns-4 : tie.Need-returns-4
 returns-4 c =
     let s = c .before .before .before .before .before .before .before .before .before .before .before .before .before .before in
     let a = s .args in
-    let place = c .before .before .before .before .before .before .before .before .before .before .place in
+    let due = c .before .before .before .before .before .before .before .before .before .before .due in
     let code = c .before .before .before .before .before .before .before .before .head-code in
     let st = standOf (a .st) (a .densities .now) in
     let p = take (a .at) (a .out .now) in
-    let head : code .result ≡ first (headRows (placeAt (st .lines) (st .left)) (st .grid .x .n) (split 9 (a .line .now))) = code .ensures ∙ ap (λ (n : ℕ). first (headRows n (a .st .grid .x .n) (split 9 (a .line .now)))) (place .ensures) in
+    let head : code .result ≡ first (headRows (dueAt (st .lines) (st .left)) (st .grid .x .n) (split 9 (a .line .now))) = code .ensures ∙ ap (λ (n : ℕ). first (headRows n (a .st .grid .x .n) (split 9 (a .line .now)))) (due .ensures) in
     let m = c .before .before .take-ray in
-    (m .ensures .0, m .ensures .1 ∙ ap (after p) (sym (ray-line st (a .line .now) (s .pre .3) (code .result) head (c .before .before .before .before .before .before .before .if1 .left) (λ e. c .before .before .before .before .before .before .if2 .left (place .ensures ∙ e)) (λ e. c .before .before .before .before .before .if3 .left (place .ensures ∙ e)))))
+    (m .ensures .0, m .ensures .1 ∙ ap (after p) (sym (ray-line st (a .line .now) (s .pre .3) (code .result) head (c .before .before .before .before .before .before .before .if1 .left) (λ e. c .before .before .before .before .before .before .if2 .left (due .ensures ∙ e)) (λ e. c .before .before .before .before .before .if3 .left (due .ensures ∙ e)))))
 
 pub take-line-spec : {M : Type 1} → statement M
 take-line-spec =
     tie.close
     (tie.spec
-    place-requires
+    due-requires
     head-code-requires
     refuse-requires
     same-length

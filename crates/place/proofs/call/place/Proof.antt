@@ -1,7 +1,7 @@
 -- `call::place` meets its contract. Assumes nothing.
 use native.Mathlib.Omega.{arith}
 use mathlib.Core.Path.{_≡_, sym, ap, _∙_}
-use Rattle.axis.specs.Codes.{bench}
+use Rattle.axis.specs.Codes.{tenths}
 use Rattle.ray.specs.declared.Grid.{Grid}
 use Rattle.ray.specs.declared.Ray.{Ray}
 use Rattle.place.specs.declared.fraction.Fraction.{Fraction}
@@ -23,13 +23,13 @@ module _ (c : tie.After-across) where
   abbrev r : Ray
   r = c .before .args .r
 
-  answer : (k : Crossing) → c .across .result ≡ k → (placed k ≡ placeOf bench g r) × (told (placed k) ≡ toldOf bench g r)
+  answer : (k : Crossing) → c .across .result ≡ k → (placed k ≡ placeOf tenths g r) × (told (placed k) ≡ toldOf tenths g r)
   answer k h =
-      let e = ap placed (sym h ∙ c .across .ensures) ∙ place-is bench g r (omega arith) in
-      (e, ap told e ∙ told-is bench g r)
+      let e = ap placed (sym h ∙ c .across .ensures) ∙ place-is tenths g r (omega arith) in
+      (e, ap told e ∙ told-is tenths g r)
 
-  hits : (e l : Fraction) → c .across .result ≡ Through e l → Hit bench g r (omega arith) e l
-  hits e l h = hit bench g r (omega arith) e l (sym (c .across .ensures) ∙ h)
+  hits : (e l : Fraction) → c .across .result ≡ Through e l → Hit tenths g r (omega arith) e l
+  hits e l h = hit tenths g r (omega arith) e l (sym (c .across .ensures) ∙ h)
 
 across-requires : tie.Need-across-requires
 across-requires c κs = search needs

@@ -2,7 +2,7 @@
 use native.Mathlib.Omega.{arith}
 use mathlib.Core.Path.{_≡_, refl, sym, ap, _∙_}
 use mathlib.Core.Bool.{true}
-use Rattle.axis.specs.Codes.{bench, inside}
+use Rattle.axis.specs.Codes.{tenths, inside}
 use Rattle.ray.specs.declared.Grid.{Grid}
 use Rattle.ray.specs.declared.Ray.{Ray}
 use Rattle.ray.specs.Length.{Side, X, Y, Z, leg}
@@ -27,16 +27,16 @@ module _ (c : tie.After-across) where
   abbrev r : Ray
   r = c .before .args .r
 
-  answer : (k : Crossing) (a : Points) → c .across .result ≡ k → a ≡ pointed r k → (a ≡ pointsOf bench g r) × (markCode (a .mark) ≡ refusalOf bench g r)
+  answer : (k : Crossing) (a : Points) → c .across .result ≡ k → a ≡ pointed r k → (a ≡ pointsOf tenths g r) × (markCode (a .mark) ≡ refusalOf tenths g r)
   answer k a h p =
-      let e = p ∙ ap (pointed r) (sym h ∙ c .across .ensures) ∙ points-is bench g r (omega arith) in
-      (e, ap (λ (x : Points). markCode (x .mark)) e ∙ mark-is bench g r)
+      let e = p ∙ ap (pointed r) (sym h ∙ c .across .ensures) ∙ points-is tenths g r (omega arith) in
+      (e, ap (λ (x : Points). markCode (x .mark)) e ∙ mark-is tenths g r)
 
   module _ (e l : Fraction) (h : c .across .result ≡ Through e l) where
-    hits : Hit bench g r (omega arith) e l
-    hits = hit bench g r (omega arith) e l (sym (c .across .ensures) ∙ h)
+    hits : Hit tenths g r (omega arith) e l
+    hits = hit tenths g r (omega arith) e l (sym (c .across .ensures) ∙ h)
 
-    inner : (s : Side) → (inside bench (leg r s .p) ≡ true) × (inside bench (leg r s .q) ≡ true)
+    inner : (s : Side) → (inside tenths (leg r s .p) ≡ true) × (inside tenths (leg r s .q) ≡ true)
     inner s = (hits .ok .from s, hits .ok .to s)
 
 across-requires : tie.Need-across-requires
@@ -62,14 +62,14 @@ point-at-requires c κs =
     let k = c .before .before .before in
     let i = inner k _ _ (c .before .c2 .given .1) in
     let H = hits k _ _ (c .before .c2 .given .1) in
-    (i X, (i Y, (i Z, (H .enters .small, (enter-low bench (g k) (r k) (omega arith) _ _ H, H .enters .some)))))
+    (i X, (i Y, (i Z, (H .enters .small, (enter-low tenths (g k) (r k) (omega arith) _ _ H, H .enters .some)))))
 
 point-at-requires-2 : tie.Need-point-at-requires-2
 point-at-requires-2 c κs =
     let k = c .before .before .before .before in
     let i = inner k _ _ (c .before .before .c2 .given .1) in
     let H = hits k _ _ (c .before .before .c2 .given .1) in
-    (i X, (i Y, (i Z, (H .leaves .small, (leave-low bench (g k) (r k) (omega arith) _ _ H, H .leaves .some)))))
+    (i X, (i Y, (i Z, (H .leaves .small, (leave-low tenths (g k) (r k) (omega arith) _ _ H, H .leaves .some)))))
 
 returns : tie.Need-returns
 returns c = answer (c .before .before .before .before) _ _ (c .before .before .c .given .1) (c .unplaced .ensures)

@@ -8,7 +8,7 @@ use mir.Syntax.{w32, w64}
 use mir.Val.{SFits, toZ, ofZ}
 use mir.ValLaws.{toZ-ofZ, toZ-pos}
 use Rattle.axis.specs.Leg.{Leg}
-use Rattle.axis.specs.Codes.{bench}
+use Rattle.axis.specs.Codes.{tenths}
 use Rattle.axis.proofs.Shift.{shift}
 use Rattle.axis.proofs.Bounds.{inside-most}
 use Rattle.place.specs.declared.fraction.Fraction.{Fraction}
@@ -40,7 +40,7 @@ module _ (c : tie.After-raised2) where
   q-is = rw (toZ-ofZ w32 (leg .q) (c .before .before .fits .q)) at (c .raised2 .ensures)
 
   ends : (shift 16384 (leg .p) ≤ 32768) × (shift 16384 (leg .q) ≤ 32768)
-  ends = (inside-most bench (leg .p) (c .before .before .pre .0 .0), inside-most bench (leg .q) (c .before .before .pre .0 .1))
+  ends = (inside-most tenths (leg .p) (c .before .before .pre .0 .0), inside-most tenths (leg .q) (c .before .before .pre .0 .1))
 
   abbrev v : ℕ
   v = spot (shift 16384 (leg .p)) (shift 16384 (leg .q)) (f .num) (f .den)
@@ -104,7 +104,7 @@ returns c =
     let s = k .before .before in
     rw (v-is (c .before .before .before), back k)
     (quotient-is (z k) (f k .den) (z-most k) (omega arith) (omega arith)
-    ∙ ap (λ (y : ℤ). nearest y (f k .den)) (sym (exactly-is bench (leg k) (s .pre .0 .0) (s .pre .0 .1) (f k .num) (f k .den) (omega arith))))
+    ∙ ap (λ (y : ℤ). nearest y (f k .den)) (sym (exactly-is tenths (leg k) (s .pre .0 .0) (s .pre .0 .1) (f k .num) (f k .den) (omega arith))))
 
 pub coordinate-at-spec : {M : Type 1} → statement M
 coordinate-at-spec =

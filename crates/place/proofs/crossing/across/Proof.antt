@@ -5,7 +5,7 @@ use mathlib.Core.Bool.{true}
 use mir.Syntax.{w32}
 use mir.Val.{toZ, ofZ}
 use borrow.Author.Tests.{eq-eqb, ne-eqb}
-use Rattle.axis.specs.Codes.{bench, inside, axisCode}
+use Rattle.axis.specs.Codes.{tenths, inside, axisCode}
 use Rattle.ray.specs.declared.Grid.{Grid}
 use Rattle.ray.specs.declared.Ray.{Ray}
 use Rattle.ray.specs.Length.{Side, X, Y, Z, leg, volume, array}
@@ -26,11 +26,11 @@ module _ (c : tie.Else1) where
   abbrev r : Ray
   r = c .before .before .args .r
 
-  code-is : refusalOf bench g r ≡ 0
+  code-is : refusalOf tenths g r ≡ 0
   code-is = sym (c .before .refusal .ensures) ∙ omega arith
 
-  fine : Accepted bench g r
-  fine = accepted bench g r code-is
+  fine : Accepted tenths g r
+  fine = accepted tenths g r code-is
 
   -- the end coordinates, as they are read
   ends : (s : Side) → (toZ w32 (ofZ w32 (leg r s .p)) ≡ leg r s .p) × (toZ w32 (ofZ w32 (leg r s .q)) ≡ leg r s .q)
@@ -38,7 +38,7 @@ module _ (c : tie.Else1) where
   ends Y = (search needs, search needs)
   ends Z = (search needs, search needs)
 
-  asked : (s : Side) → (axisCode bench (axisOf g s) ≡ 0) × ((inside bench (toZ w32 (ofZ w32 (leg r s .p))) ≡ true) × (inside bench (toZ w32 (ofZ w32 (leg r s .q))) ≡ true))
+  asked : (s : Side) → (axisCode tenths (axisOf g s) ≡ 0) × ((inside tenths (toZ w32 (ofZ w32 (leg r s .p))) ≡ true) × (inside tenths (toZ w32 (ofZ w32 (leg r s .q))) ≡ true))
   asked s = (fine .axis s, (rw (ends s .0) (fine .from s), rw (ends s .1) (fine .to s)))
 
 on-x : (c : tie.After-on-axis) → c .on-axis .result ≡ stretchOf (leg (r (c .before .before .before .before .before .before .before .before)) X) (array (volume (g (c .before .before .before .before .before .before .before .before))) X)
@@ -69,7 +69,7 @@ on-axis-requires-3 c κs = asked (c .before .before .before .before .before .bef
 joined-requires : tie.Need-joined-requires
 joined-requires c κs =
     let e = c .before .before .before .before .before .before .before .before .before .before .before .before .before .before in
-    let z : (s : Side) → Sized (stretchOf (leg (r e) s) (array (volume (g e)) s)) = all-sized bench (omega arith) (g e) (r e) (fine e) in
+    let z : (s : Side) → Sized (stretchOf (leg (r e) s) (array (volume (g e)) s)) = all-sized tenths (omega arith) (g e) (r e) (fine e) in
     rw (on-x (c .before .before .before .before .before .before), on-y (c .before .before .before), on-z c) ((z X .enter, (z Y .enter, z Z .enter)), (z X .leave, (z Y .leave, z Z .leave)))
 
 returns-2 : tie.Need-returns-2

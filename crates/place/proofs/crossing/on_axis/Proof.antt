@@ -4,7 +4,7 @@ use mathlib.Core.Path.{_≡_, _∙_}
 use mir.Syntax.{w32}
 use mir.Val.{toZ, ofZ}
 use mir.ValLaws.{toZ-ofZ}
-use Rattle.axis.specs.Codes.{bench}
+use Rattle.axis.specs.Codes.{tenths}
 use Rattle.place.proofs.Accepted.{code-ok}
 use Rattle.place.proofs.Sizes.{worked-out}
 use borrow.Author.Needs.{needs}
@@ -21,10 +21,10 @@ cast-hi-2 : tie.Need-cast-hi-2
 cast-hi-2 c = search needs
 
 mul-hi : tie.Need-mul-hi
-mul-hi c = let s = c .before .before .before .before in let ok = code-ok bench (s .args .a) (s .pre .0) in record { fits = omega (arith, ok .far) }
+mul-hi c = let s = c .before .before .before .before in let ok = code-ok tenths (s .args .a) (s .pre .0) in record { fits = omega (arith, ok .far) }
 
 add-hi : tie.Need-add-hi
-add-hi c = let s = c .before .before .before .before in let ok = code-ok bench (s .args .a) (s .pre .0) in let a = s .args .a in let eb : toZ w32 (ofZ w32 (a .b)) ≡ a .b = search needs in let first = rw eb at (c .before .before .raised .ensures) in record { fits = omega (arith, ok .far) }
+add-hi c = let s = c .before .before .before .before in let ok = code-ok tenths (s .args .a) (s .pre .0) in let a = s .args .a in let eb : toZ w32 (ofZ w32 (a .b)) ≡ a .b = search needs in let first = rw eb at (c .before .before .raised .ensures) in record { fits = omega (arith, ok .far) }
 
 raised-requires-2 : tie.Need-raised-requires-2
 raised-requires-2 c κs = search needs
@@ -43,7 +43,7 @@ returns c =
     let ep = toZ-ofZ w32 (s .args .p) (s .fits .p) in
     let eq = toZ-ofZ w32 (s .args .q) (s .fits .q) in
     c .between .ensures
-    ∙ worked-out bench a (record { p = s .args .p; q = s .args .q }) (code-ok bench a (s .pre .0)) (s .pre .1 .0) (s .pre .1 .1) _ _ _
+    ∙ worked-out tenths a (record { p = s .args .p; q = s .args .q }) (code-ok tenths a (s .pre .0)) (s .pre .1 .0) (s .pre .1 .1) _ _ _
     (rw eb at (c .before .before .before .before .before .raised .ensures)) (rw ep at (c .before .before .raised2 .ensures)) (rw eq at (c .before .raised3 .ensures))
 
 pub on-axis-spec : {M : Type 1} → statement M

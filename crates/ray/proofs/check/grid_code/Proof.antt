@@ -1,5 +1,5 @@
 use mathlib.Core.Path.{sym}
-use Rattle.axis.specs.Codes.{bench}
+use Rattle.axis.specs.Codes.{tenths}
 use Rattle.ray.proofs.Rows.{grid-least}
 use borrow.Author.Needs.{needs}
 use Rattle.ray.proofs.check.grid_code.Statement.{statement}
@@ -28,7 +28,7 @@ returns c =
       c .before .before .code3 .ensures,
       c .before .before .before .code2 .ensures,
       c .before .before .before .before .code .ensures,
-    ) (sym (grid-least bench (c .before .before .before .before .before .before .before .before .args .g)))
+    ) (sym (grid-least tenths (c .before .before .before .before .before .before .before .before .args .g)))
 
 pub grid-code-spec : {M : Type 1} → statement M
 grid-code-spec =

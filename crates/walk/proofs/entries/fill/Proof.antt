@@ -4,7 +4,7 @@ use native.Mathlib.Omega.{arith}
 use borrow.Author.Needs.{needs}
 use lib.ListN.{length-set}
 use Rattle.walk.specs.Model.{stepped, entries}
-use Rattle.walk.proofs.Turns.{step-fits, next-tick, Filling, none-filled, place-v, place-p, counted-below, last-filled, one-filled}
+use Rattle.walk.proofs.Turns.{step-fits, next-tick, Filling, none-filled, index-v, index-p, counted-below, last-filled, one-filled}
 use Rattle.walk.proofs.entries.fill.Statement.{statement}
 use Rattle.walk.proofs.entries.fill.Tie as tie
 
@@ -36,7 +36,7 @@ slice-write-voxels : tie.Need-slice-write-voxels Inv-loop μ-loop
 slice-write-voxels c =
     let a = c .before .before .before .before .before .args in
     let l = c .before .before .loop in
-    place-v (a .s) (a .to) (entries (a .s) (a .to) (a .begin)) (l .w) (l .r) (l .voxels) (l .parts) (a .voxels .now) (a .parts .now) (l .inv)
+    index-v (a .s) (a .to) (entries (a .s) (a .to) (a .begin)) (l .w) (l .r) (l .voxels) (l .parts) (a .voxels .now) (a .parts .now) (l .inv)
 
 sub-parts : tie.Need-sub-parts Inv-loop μ-loop
 sub-parts c =
@@ -55,7 +55,7 @@ slice-write-parts : tie.Need-slice-write-parts Inv-loop μ-loop
 slice-write-parts c =
     let a = c .before .before .before .before .before .before .before .before .args in
     let l = c .before .before .before .before .before .loop in
-    place-p (a .s) (a .to) (entries (a .s) (a .to) (a .begin)) (l .w) (l .r) (l .voxels) (l .parts) (a .voxels .now) (a .parts .now) (l .inv)
+    index-p (a .s) (a .to) (entries (a .s) (a .to) (a .begin)) (l .w) (l .r) (l .voxels) (l .parts) (a .voxels .now) (a .parts .now) (l .inv)
 
 add-result : tie.Need-add-result Inv-loop μ-loop
 add-result c =
@@ -97,7 +97,7 @@ slice-write-parts-2 : tie.Need-slice-write-parts-2 Inv-loop μ-loop
 slice-write-parts-2 c =
     let a = c .before .before .before .before .before .before .before .before .before .args in
     let l = c .before .before .before .before .before .before .loop in
-    place-p (a .s) (a .to) (entries (a .s) (a .to) (a .begin)) (l .w) (l .r) (l .voxels) (l .parts) (a .voxels .now) (a .parts .now) (l .inv)
+    index-p (a .s) (a .to) (entries (a .s) (a .to) (a .begin)) (l .w) (l .r) (l .voxels) (l .parts) (a .voxels .now) (a .parts .now) (l .inv)
 
 add-r : tie.Need-add-r Inv-loop μ-loop
 add-r c =

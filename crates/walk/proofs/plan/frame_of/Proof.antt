@@ -32,8 +32,8 @@ mul-cy c = record { fits = omega (arith, two-sizes (small (c .before .before .be
 mul-cz : tie.Need-mul-cz
 mul-cz c = record { fits = omega (arith, two-sizes (small (c .before .before .before .before .before .before .args .s .x) (c .before .before .before .before .before .before .pre .sized X) (c .before .before .factor .ensures)) (small (c .before .before .before .before .before .before .args .s .y) (c .before .before .before .before .before .before .pre .sized Y) (c .before .factor2 .ensures))) }
 
-mul-d : tie.Need-mul-d
-mul-d c = record { fits = omega (arith, three-sizes (small (c .before .before .before .before .before .before .args .s .x) (c .before .before .before .before .before .before .pre .sized X) (c .before .before .factor .ensures)) (two-sizes (small (c .before .before .before .before .before .before .args .s .y) (c .before .before .before .before .before .before .pre .sized Y) (c .before .factor2 .ensures)) (small (c .before .before .before .before .before .before .args .s .z) (c .before .before .before .before .before .before .pre .sized Z) (c .factor3 .ensures)))) }
+mul-denominator : tie.Need-mul-denominator
+mul-denominator c = record { fits = omega (arith, three-sizes (small (c .before .before .before .before .before .before .args .s .x) (c .before .before .before .before .before .before .pre .sized X) (c .before .before .factor .ensures)) (two-sizes (small (c .before .before .before .before .before .before .args .s .y) (c .before .before .before .before .before .before .pre .sized Y) (c .before .factor2 .ensures)) (small (c .before .before .before .before .before .before .args .s .z) (c .before .before .before .before .before .before .pre .sized Z) (c .factor3 .ensures)))) }
 
 reach-requires : tie.Need-reach-requires
 reach-requires c κs = (c .before .before .before .before .before .before .pre .sized X, two-sizes (small (c .before .before .before .before .before .before .args .s .y) (c .before .before .before .before .before .before .pre .sized Y) (c .before .factor2 .ensures)) (small (c .before .before .before .before .before .before .args .s .z) (c .before .before .before .before .before .before .pre .sized Z) (c .factor3 .ensures)))
@@ -75,7 +75,7 @@ frame-of-spec =
     mul-cx
     mul-cy
     mul-cz
-    mul-d
+    mul-denominator
     reach-requires
     reach-requires-2
     reach-requires-3

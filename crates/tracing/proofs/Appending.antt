@@ -1,0 +1,101 @@
+-- A trace lent the tails of the lists answers for the lists, behind the places filled; and the code where there is no tail. Assumes nothing.
+use Prim.Native.Nat.{ℕ, _+_, _-_, _≤_, _<_}
+use mathlib.Core.Path.{_≡_, refl, sym, ap, _∙_}
+use mathlib.Core.Bool.{Bool, true, false, not, cond}
+use mathlib.Core.List.{List, [], _∷_, _++_, map, append-nil}
+use mathlib.Core.Logic.{_⊎_, ⊎-elim}
+use native.Mathlib.Omega.{arith}
+use native.Mathlib.Decide.{ℕ-discrete, decLt}
+use native.Mathlib.Nat.{zero-add, le-refl}
+use lib.Dec.{eqb, ltb}
+use lib.ListN.{length, take, drop, length-drop, drop-of-length-le, take-append-drop}
+use lib.Seq.{drop-drop, take-length}
+use borrow.Author.Tests.{eq-eqb, ne-eqb, lt-ltb, le-ltb}
+use borrow.Rule.Slice.PartMut.{midOf, putMid, post-is}
+use Rattle.axis.specs.Codes.{tenths, first, row}
+use Rattle.ray.specs.declared.Grid.{Grid}
+use Rattle.ray.specs.declared.Ray.{Ray}
+use Rattle.ray.specs.Length.{volume, count, partOf, listOf}
+use Rattle.ray.specs.Codes.{gridRows, endRows}
+use Rattle.tracing.specs.declared.Trace.{Trace}
+use Rattle.tracing.specs.Answer.{codeOf, answerOf, written, voxelsAfter, partsAfter}
+use Rattle.tracing.proofs.Accepting.{in-stages}
+use Rattle.tracing.proofs.Answering.{Answers}
+
+-- what is put behind the places filled is put at the front of the tail
+behind : (filled : ℕ) (xs new : List ℕ) (b : Bool) → cond b (written filled new xs) xs ≡ take filled xs ++ cond b (written 0 new (drop filled xs)) (drop filled xs)
+behind filled xs new true = rw zero-add (ap (λ (ys : List ℕ). take filled xs ++ (new ++ ys)) (sym (drop-drop (length new) filled xs)))
+behind filled xs new false = sym (take-append-drop filled xs)
+
+-- a part of a lent list from `filled` on, and it put back
+abbrev tail : ℕ → List ℕ → List ℕ
+tail filled xs = midOf filled (length xs - filled) xs
+
+tail-is : (filled : ℕ) (xs : List ℕ) → tail filled xs ≡ drop filled xs
+tail-is filled xs = ap (λ (n : ℕ). take n (drop filled xs)) (sym (length-drop filled xs)) ∙ take-length (drop filled xs)
+
+put-back : (filled : ℕ) (xs ys : List ℕ) → filled ≤ length xs → putMid filled (length xs - filled) xs ys ≡ take filled xs ++ ys
+put-back filled xs ys h = rw (post-is filled (length xs) xs h, drop-of-length-le xs (le-refl (length xs)), append-nil ys) refl
+
+eqb-less : (a b c : ℕ) → c ≤ a → c ≤ b → eqb (a - c) (b - c) ≡ eqb a b
+eqb-less a b c h k = elim (ℕ-discrete a b) [
+  | yes e ↦ eq-eqb (a - c) (b - c) (omega arith) ∙ sym (eq-eqb a b e)
+  | no e ↦ ne-eqb (a - c) (b - c) (λ z. e (omega arith)) ∙ sym (ne-eqb a b e)
+]
+
+ltb-less : (a b c : ℕ) → c ≤ a → ltb (a - c) (0 + b) ≡ ltb a (c + b)
+ltb-less a b c h = elim (decLt a (c + b)) [
+  | yes l ↦ lt-ltb (a - c) (0 + b) (omega arith) ∙ sym (lt-ltb a (c + b) l)
+  | no l ↦ le-ltb (a - c) (0 + b) (omega arith) ∙ sym (le-ltb a (c + b) (omega arith))
+]
+
+module _ (g : Grid) (r : Ray) (vs ps : List ℕ) (filled : ℕ) (hv : filled ≤ length vs) (hp : filled ≤ length ps) where
+  same-code : (densities : ℕ) → codeOf g r densities (length vs) (length ps) filled ≡ codeOf g r densities (length (drop filled vs)) (length (drop filled ps)) 0
+  same-code densities =
+      in-stages g r densities (length vs) (length ps) filled
+      ∙ rw (
+        length-drop filled vs,
+        length-drop filled ps,
+        eqb-less (length vs) (length ps) filled hv hp,
+        ltb-less (length vs) (length (listOf (volume g) r)) filled hv,
+      ) refl
+      ∙ sym (in-stages g r densities (length (drop filled vs)) (length (drop filled ps)) 0)
+
+  abbrev free : ℕ → Bool
+  free densities = eqb (codeOf g r densities (length (drop filled vs)) (length (drop filled ps)) 0) 0
+
+  -- Behind the places filled the answer and the lists are those of a trace with the tails as its lists (RULES 7).
+  pub answer-behind : (densities : List ℕ) → answerOf g r densities (length vs) (length ps) filled ≡ answerOf g r densities (length (drop filled vs)) (length (drop filled ps)) 0
+  unfolding answerOf
+  answer-behind densities = rw (same-code (length densities)) refl
+
+  pub voxels-behind : (densities : ℕ) → voxelsAfter g r densities vs ps filled ≡ take filled vs ++ voxelsAfter g r densities (drop filled vs) (drop filled ps) 0
+  unfolding voxelsAfter
+  voxels-behind densities = rw (same-code densities) (behind filled vs (listOf (volume g) r) (free densities))
+
+  pub parts-behind : (densities : ℕ) → partsAfter g r densities vs ps filled ≡ take filled ps ++ partsAfter g r densities (drop filled vs) (drop filled ps) 0
+  unfolding partsAfter
+  parts-behind densities = rw (same-code densities) (behind filled ps (map (partOf (volume g) r) (listOf (volume g) r)) (free densities))
+
+  -- the same as the code has it: what a trace left in the tails, put back
+  pub tail-answers : (densities : List ℕ) (a : Trace) (tv tp : List ℕ)
+      → a ≡ answerOf g r densities (length (tail filled vs)) (length (tail filled ps)) 0
+      → tv ≡ voxelsAfter g r (length densities) (tail filled vs) (tail filled ps) 0
+      → tp ≡ partsAfter g r (length densities) (tail filled vs) (tail filled ps) 0
+      → Answers g r densities vs ps filled a (putMid filled (length vs - filled) vs tv) (putMid filled (length ps - filled) ps tp)
+  tail-answers densities a tv tp ea ev ep = record {
+    answer = rw (tail-is filled vs, tail-is filled ps) at ea ∙ sym (answer-behind densities);
+    voxels-now =
+        put-back filled vs tv hv ∙ ap (λ (ys : List ℕ). take filled vs ++ ys) (rw (tail-is filled vs, tail-is filled ps) at ev) ∙ sym (voxels-behind (length densities));
+    parts-now =
+        put-back filled ps tp hp ∙ ap (λ (ys : List ℕ). take filled ps ++ ys) (rw (tail-is filled vs, tail-is filled ps) at ep) ∙ sym (parts-behind (length densities));
+  }
+
+-- Where `filled` lies beyond the end of a list, the code is the table's with row 8 applying: the first of 1 to 7 that applies, else 8.
+pub code-beyond : (g : Grid) (r : Ray) (densities voxels parts filled : ℕ) → (voxels < filled) ⊎ (parts < filled)
+    → codeOf g r densities voxels parts filled
+    ≡ first (gridRows tenths g ++ (row 4 (not (eqb densities (count (volume g)))) ∷ []) ++ endRows tenths r ++ (row 7 (not (eqb voxels parts)) ∷ row 8 true ∷ []))
+code-beyond g r densities voxels parts filled h = elim (decLt voxels (filled + length (listOf (volume g) r))) [
+  | yes l ↦ rw (lt-ltb voxels (filled + length (listOf (volume g) r)) l) refl
+  | no l ↦ rw (ne-eqb voxels parts (⊎-elim (λ k e. omega arith) (λ k e. omega arith) h)) refl
+]
