@@ -2,12 +2,12 @@
 // that places which must stay as they were are seen.
 use axis::Axis;
 use libc::STDOUT_FILENO;
-use tracing::Trace;
-use tracing::calls::append;
-use tracing::calls::trace;
 use ray::End;
 use ray::Grid;
 use ray::Ray;
+use tracing::Trace;
+use tracing::calls::append;
+use tracing::calls::trace;
 
 fn text(t: &[u8]) {
     io::write_all(STDOUT_FILENO, t);

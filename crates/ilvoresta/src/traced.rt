@@ -3,11 +3,11 @@ ghost use mathlib.Core.Path.{_≡_};
 ghost use mathlib.Core.List.{[], _∷_};
 ghost use lib.ListN.{length};
 ghost use Rattle.ilvoresta.specs.Entry.{Traced};
+use ray::Grid;
+use ray::Ray;
 use tracing::Trace;
 use tracing::calls::trace;
 use tracing::code::code_of;
-use ray::Grid;
-use ray::Ray;
 
 pub fn put_six(t: Trace, answer: &mut [u64])
     requires { ⌜ length (now answer) ≡ 6 ⌝ }

@@ -13,13 +13,13 @@ ghost use Rattle.job.specs.Sound.{Sound, Ready, Kept, stepIs, after, roo
 ghost use Rattle.job.specs.Read.{readRay};
 use crate::state::Moved;
 use crate::state::State;
-use tracing::Trace;
-use tracing::calls::trace;
 use ray::End;
 use ray::Grid;
 use ray::Ray;
 use text::numbers::integers;
 use text::put::put_line;
+use tracing::Trace;
+use tracing::calls::trace;
 
 // The numbers of a RAY line.
 pub enum RayLine {

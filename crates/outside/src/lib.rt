@@ -12,8 +12,8 @@ use crate::put::put_mark;
 use crate::put::put_points;
 use ilvoresta::given::grid_of;
 use ilvoresta::given::ray_of;
-use tracing::calls::append;
 use place::call::points;
+use tracing::calls::append;
 
 // Returns the code. `answer` holds the other six numbers, after a refusal too.
 #[no_mangle]

@@ -5,9 +5,9 @@ ghost use Rattle.ilvoresta.proofs.Answered.{sixIn};
 ghost use Rattle.place.specs.Answers.{markCode};
 ghost use Rattle.outside.specs.Doors.{put, markOf, floatsOf};
 use ilvoresta::traced::put_six;
-use tracing::Trace;
 use place::Mark;
 use place::Points;
+use tracing::Trace;
 
 pub fn put_answer(t: Trace, answer: &mut [u64])
     ensures { λ _. ⌜ now (answer .exit) ≡ put (sixIn t) (now (answer .entry)) ⌝ }

@@ -3,7 +3,7 @@ use Prim.Native.Nat.{ℕ, _+_, _-_, _*_, _≤_, _<_, min}
 use mathlib.Core.Path.{_≡_, refl, ap, _∙_}
 use mathlib.Core.Bool.{Bool, true, false, _&&_, cond}
 use native.Mathlib.Omega.{arith}
-use native.Mathlib.Nat.{mul-pos, mul-comm, mul-assoc, mul-left-comm}
+use native.Mathlib.Nat.{mul-pos}
 use Rattle.axis.specs.Leg.{factor, enters, leaves, held}
 use borrow.Author.Tests.{le-leb}
 use Rattle.axis.proofs.Flag.{and-left, and-right}
@@ -98,11 +98,6 @@ module _ (s : Scene) where
   rest-some X = mul-pos (factor-at Y) (factor-at Z)
   rest-some Y = mul-pos (factor-at X) (factor-at Z)
   rest-some Z = mul-pos (factor-at X) (factor-at Y)
-
-  pub d-is : (o : Side) → factor (leg ray o) * rest ray o ≡ dOf ray
-  d-is X = refl
-  d-is Y = mul-left-comm (factor (leg ray Y)) (factor (leg ray X)) (factor (leg ray Z))
-  d-is Z = mul-comm (factor (leg ray Z)) (factor (leg ray X) * factor (leg ray Y)) ∙ mul-assoc (factor (leg ray X)) (factor (leg ray Y)) (factor (leg ray Z))
 
   -- ---- a part above zero, taken apart
   pub record Met (m : ℕ) : Type 0 where
