@@ -48,8 +48,8 @@ module _ (m : Limits) (g : Grid) (r : Ray) (ok : refusalOf m g r ≡ 0) (hit : m
     along-is : (s : Side) → nearestTo (along (leg r s) α) ≡ coordinate (leg r s) t (dOf r)
     along-is s =
         let h : Accepted m g r = accepted m g r ok in
-        ap (λ (z : ℤ). nearest (leg r s .p *ℤ pos (α .den) +ℤ z *ℤ (leg r s .q -ℤ leg r s .p)) (α .den)) (least0 (dOf r) p)
-        ∙ coordinate-is m (leg r s) (h .from s) (h .to s) (natural (α .num)) (α .den) t (dOf r) (p .den-pos) (p .d-pos) most (at (dOf r) p)
+        ap (λ (z : ℤ). nearest (leg r s .p *ℤ pos (α .den) +ℤ z *ℤ (leg r s .q -ℤ leg r s .p)) (α .den)) (least0 p)
+        ∙ coordinate-is m (leg r s) (h .from s) (h .to s) (natural (α .num)) (α .den) t (dOf r) (p .den-pos) (p .d-pos) most (at p)
 
     point-is : pointTo r α ≡ pointAt r t (dOf r)
     point-is = rw (along-is X, along-is Y, along-is Z)

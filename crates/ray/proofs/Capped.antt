@@ -3,6 +3,7 @@
 use Prim.Native.Nat.{ℕ, _-_, _*_, _≤_, _<_, min, max}
 use mathlib.Core.Path.{_≡_, refl, sym, ap, _∙_}
 use mathlib.Core.Bool.{Bool, true, false, cond}
+use mathlib.Core.Logic.{inl, inr}
 use native.Mathlib.Nat.{mul-assoc, mul-comm, mul-left-comm, one-mul, mul-pos, min-zero, min-le-left}
 use native.Mathlib.Omega.{arith}
 use lib.IntN.{ℤ}
@@ -10,6 +11,7 @@ use Rattle.axis.specs.Leg.{moving, factor, run, Slab, held, enters, leaves}
 use Rattle.ray.specs.declared.Ray.{Ray}
 use Rattle.ray.specs.Length.{Side, X, Y, Z, leg, dOf, rest, Volume, voxel, holds, start, stop, partOf}
 use Rattle.ray.proofs.Through.{Rises, Through, max-rises, min-rises, three-as, either-as, min-cap-rises, times-rises}
+use Rattle.ray.proofs.Tests.{tested}
 use Rattle.ray.proofs.Way.{passed, factor-pos}
 
 -- α times D of the place c on a side, at most D
@@ -105,11 +107,10 @@ module _ (r : Ray) where
 
   pub met : (b : Side → Slab) → 0 < part r b → Met b
   unfolding part
-  met b h = go (holds r b) refl h
-    where
-      go : (m : Bool) → holds r b ≡ m → 0 < cond m (stop r b - start r b) 0 → Met b
-      go true e l = let f = ahead (dOf r) (stop r b) (start r b) (stop-cap b) l in record { held = e; some = f .0; begins = f .1 }
-      go false e l = absurd (omega arith)
+  met b h = elim (tested (holds r b)) [
+    | inl e ↦ let f = ahead (dOf r) (stop r b) (start r b) (stop-cap b) (rw e at h) in record { held = e; some = f .0; begins = f .1 }
+    | inr e ↦ let none : 0 < 0 = rw e at h in absurd (omega arith)
+  ]
 
 -- a ray r′ whose places, through g, are those of r through h
 module _

@@ -15,7 +15,7 @@ use Rattle.ray.specs.Length.{Side, leg, dOf, rest, Volume, count, voxel,
 use Rattle.ray.proofs.Total.{total-same, total-add, total-times}
 use Rattle.ray.proofs.Way.{factor-pos}
 use Rattle.ray.proofs.Capped.{part, part-voxel, d-side, d-pos}
-use Rattle.ray.proofs.CutBox.{Between, near, far, upTo, onFrom, factors, share, moving-near, moving-far, parts}
+use Rattle.ray.proofs.CutBox.{Between, near, far, moving-near, moving-far, sides, near-piece, far-piece, size-side, parts}
 
 -- the difference of a ray's end coordinates, its length on that axis
 abbrev pub difference : Ray → Side → ℕ
@@ -35,12 +35,6 @@ abbrev pub Mean : Ray → End → Side → (Ray → ℕ) → Type 0
 Mean r m s x =
     MeanOf (difference r s) (difference (near r m) s) (difference (far r m) s) (dOf r) (dOf (near r m)) (dOf (far r m)) (x r) (x (near r m)) (x (far r m))
 
--- the same, with what x is multiplied by put together
-abbrev Spread : Ray → End → Side → (Ray → ℕ) → Type 0
-Spread r m s x =
-    difference r s * (dOf (near r m) * dOf (far r m)) * x r
-    ≡ difference (near r m) s * dOf (far r m) * dOf r * x (near r m) + difference (far r m) s * dOf (near r m) * dOf r * x (far r m)
-
 moving-factor : (r : Ray) (s : Side) → moving (leg r s) ≡ true → factor (leg r s) ≡ difference r s
 moving-factor r s h = rw h
 
@@ -56,28 +50,19 @@ shown : (f dn df a b d x y z : ℕ) → f * (dn * df) * x ≡ a * df * d * y + b
 shown f dn df a b d x y z h =
     mul-assoc x f (dn * df) ∙ mul-comm x (f * (dn * df)) ∙ h ∙ simp (mul-add, mul-assoc, mul-comm, mul-left-comm)
 
-mean : (r : Ray) (m : End) (s : Side) (x : Ray → ℕ) → moving (leg r s) ≡ true → Spread r m s x → Mean r m s x
-mean r m s x moves h = record {
-  f-pos = rw (← moving-factor r s moves) (factor-pos (leg r s));
-  d-pos = d-pos r;
-  d₁-pos = d-pos (near r m);
-  d₂-pos = d-pos (far r m);
-  is = shown (difference r s) (dOf (near r m)) (dOf (far r m)) (difference (near r m) s) (difference (far r m) s) (dOf r) (x r) (x (near r m)) (x (far r m)) h;
-}
-
 left : (a b f a′ b′ f′ : ℕ) → a + b ≡ f → a′ + b′ ≡ f′ → a * f′ ≡ a′ * f → b * f′ ≡ b′ * f
 left a b f a′ b′ f′ h k e =
     omega (arith, add-mul a b f′, add-mul a′ b′ f, ap (λ (x : ℕ). x * f′) h, ap (λ (x : ℕ). x * f) k, mul-comm f f′)
 
-dense : (k a b x y z g : ℕ) → k * x ≡ a * y + b * z → k * (x * g) ≡ a * (y * g) + b * (z * g)
-dense k a b x y z g h = sym (mul-assoc k x g) ∙ ap (λ (t : ℕ). t * g) h ∙ add-mul (a * y) (b * z) g ∙ ap₂ _+_ (mul-assoc a y g) (mul-assoc b z g)
-
-linear : (k a b : ℕ) (f g h : ℕ → ℕ) → ((m : ℕ) → k * f m ≡ a * g m + b * h m) → (n : ℕ) → k * total f n ≡ a * total g n + b * total h n
-linear k a b f g h e n =
-    sym (total-times f k n)
-    ∙ total-same (λ m. k * f m) (λ m. a * g m + b * h m) n (λ m i. e m)
-    ∙ total-add (λ m. a * g m) (λ m. b * h m) n
-    ∙ ap₂ _+_ (total-times g a n) (total-times h b n)
+-- what holds of each voxel's number holds of the sum, each times the voxel's weight w
+linear : (k a b : ℕ) (f g h w : ℕ → ℕ) → ((m : ℕ) → k * f m ≡ a * g m + b * h m) → (n : ℕ)
+    → k * total (λ m. f m * w m) n ≡ a * total (λ m. g m * w m) n + b * total (λ m. h m * w m) n
+linear k a b f g h w e n =
+    sym (total-times (λ m. f m * w m) k n)
+    ∙ total-same (λ m. k * (f m * w m)) (λ m. a * (g m * w m) + b * (h m * w m)) n
+    (λ m i. sym (mul-assoc k (f m) (w m)) ∙ ap (λ (t : ℕ). t * w m) (e m) ∙ add-mul (a * g m) (b * h m) (w m) ∙ ap₂ _+_ (mul-assoc a (g m) (w m)) (mul-assoc b (h m) (w m)))
+    ∙ total-add (λ m. a * (g m * w m)) (λ m. b * (h m * w m)) n
+    ∙ ap₂ _+_ (total-times (λ m. g m * w m) a n) (total-times (λ m. h m * w m) b n)
 
 module _ (r : Ray) (m : End) (between : Between r m) where
   module _ (s : Side) (moves : moving (leg r s) ≡ true) where
@@ -89,37 +74,45 @@ module _ (r : Ray) (m : End) (between : Between r m) where
 
     -- PM and MQ make up PQ
     pub differences : difference (near r m) s + difference (far r m) s ≡ difference r s
-    differences = ap₂ _+_ (sym near-difference) (sym far-difference) ∙ factors r m between s moves ∙ moving-factor r s moves
+    differences = rw (← near-difference, ← far-difference, ← moving-factor r s moves) (omega (arith, sides r m between s .near .length moves, sides r m between s .far .length moves))
 
     -- α = n/d of the differences
     pub α-difference : between .d * difference (near r m) s ≡ between .n * difference r s
-    α-difference = ap (λ (x : ℕ). between .d * x) (sym near-difference) ∙ share r m between s moves ∙ ap (λ (x : ℕ). between .n * x) (moving-factor r s moves)
+    α-difference = rw (← near-difference, ← moving-factor r s moves) (sides r m between s .share moves)
 
-    part-spread : (b : Side → Slab) → Spread r m s (λ t. part t b)
-    unfolding upTo onFrom
+    -- the mean, with what x is multiplied by put together
+    abbrev Spread : (Ray → ℕ) → Type 0
+    Spread x =
+        difference r s * (dOf (near r m) * dOf (far r m)) * x r
+        ≡ difference (near r m) s * dOf (far r m) * dOf r * x (near r m) + difference (far r m) s * dOf (near r m) * dOf r * x (far r m)
+
+    mean : (x : Ray → ℕ) → Spread x → Mean r m s x
+    mean x h = record {
+      f-pos = rw (← moving-factor r s moves) (factor-pos (leg r s));
+      d-pos = d-pos r;
+      d₁-pos = d-pos (near r m);
+      d₂-pos = d-pos (far r m);
+      is = shown (difference r s) (dOf (near r m)) (dOf (far r m)) (difference (near r m) s) (difference (far r m) s) (dOf r) (x r) (x (near r m)) (x (far r m)) h;
+    }
+
+    part-spread : (b : Side → Slab) → Spread (λ t. part t b)
     part-spread b =
         rw (← near-difference, ← far-difference, ← moving-factor r s moves, d-side r s)
-        (weights (factor (leg r s)) (rest r s) (dOf (near r m)) (dOf (far r m)) (factor (leg (near r m) s)) (factor (leg (far r m) s)) (part r b) (part (near r m) b) (part (far r m) b) (parts r m between s moves b))
+        (weights (factor (leg r s)) (rest r s) (dOf (near r m)) (dOf (far r m)) (factor (leg (near r m) s)) (factor (leg (far r m) s)) (part r b) (part (near r m) b) (part (far r m) b)
+        (rw (size-side (near-piece r m between s moves) s moves, size-side (far-piece r m between s moves) s moves) at (parts r m between s moves b)))
 
     module _ (v : Volume) where
-      voxel-spread : (w : ℕ) → Spread r m s (λ t. partOf v t w)
+      voxel-spread : (w : ℕ) → Spread (λ t. partOf v t w)
       voxel-spread w = rw (part-voxel v r w, part-voxel v (near r m) w, part-voxel v (far r m) w) (part-spread (voxel v w))
 
       -- a voxel's part over D
       pub voxel-cut : (w : ℕ) → Mean r m s (λ t. partOf v t w)
-      voxel-cut w = mean r m s (λ t. partOf v t w) moves (voxel-spread w)
+      voxel-cut w = mean (λ t. partOf v t w) (voxel-spread w)
 
       -- the weighted sum over D
       pub sum-cut : (densities : List ℕ) → Mean r m s (λ t. sumOf v t densities)
       unfolding sumOf
-      sum-cut densities =
-          mean r m s (λ t. sumOf v t densities) moves
-          (linear (difference r s * (dOf (near r m) * dOf (far r m))) (difference (near r m) s * dOf (far r m) * dOf r) (difference (far r m) s * dOf (near r m) * dOf r)
-          (λ w. partOf v r w * getD densities w 0)
-          (λ w. partOf v (near r m) w * getD densities w 0)
-          (λ w. partOf v (far r m) w * getD densities w 0)
-          (λ w. dense (difference r s * (dOf (near r m) * dOf (far r m))) (difference (near r m) s * dOf (far r m) * dOf r) (difference (far r m) s * dOf (near r m) * dOf r) (partOf v r w) (partOf v (near r m) w) (partOf v (far r m) w) (getD densities w 0) (voxel-spread w))
-          (count v))
+      sum-cut densities = mean (λ t. sumOf v t densities) (linear _ _ _ (partOf v r) (partOf v (near r m)) (partOf v (far r m)) (λ w. getD densities w 0) voxel-spread (count v))
 
   -- the weights are the same whichever moving axis they are read off
   pub same-quotient : (s t : Side) → moving (leg r s) ≡ true → moving (leg r t) ≡ true → difference (near r m) s * difference r t ≡ difference (near r m) t * difference r s

@@ -1,17 +1,17 @@
 -- One leg of a ray, cut at a whole coordinate. Assumes nothing.
 use Prim.Native.Nat.{ℕ, _+_, _-_, _*_, _≤_, _<_, min}
 use mathlib.Core.Path.{_≡_, refl, sym, ap, _∙_}
-use mathlib.Core.Bool.{Bool, true, false, _&&_, _||_}
+use mathlib.Core.Bool.{true}
 use mathlib.Core.Logic.{_⊎_, inl, inr}
 use native.Mathlib.Nat.{mul-zero, mul-pos, mul-lt-mul-of-pos-right, lt-of-mul-lt-mul-left, eq-of-mul-eq-mul-left}
 use native.Mathlib.Omega.{arith}
 use lib.IntN.{ℤ, pos, _-ℤ_, _*ℤ_}
-use lib.Signed.{leZ, ltZ}
+use lib.Signed.{leZ}
 use Rattle.axis.specs.Leg.{Leg, moving, factor, run, Slab, held}
 use Rattle.axis.proofs.Flag.{off-or-on}
-use Rattle.axis.proofs.Shift.{shift, Low}
-use Rattle.ray.proofs.Told.{shift-le, share-above, share-below}
-use Rattle.ray.proofs.Way.{Way, up, down, still, Goes, moving-by, factor-by, run-by, passed, told, still-same}
+use Rattle.axis.proofs.Shift.{shift, Low, above-shift}
+use Rattle.ray.proofs.Told.{neg-diff, shift-le, share-above, share-below}
+use Rattle.ray.proofs.Way.{Way, up, down, still, Goes, Going, moving-by, factor-by, run-by, passed, told, still-same, held-same}
 
 -- the leg as far as m, and from m on
 abbrev pub before : Leg → ℤ → Leg
@@ -42,98 +42,99 @@ pub record CutAt (n d : ℕ) (l : Leg) (m : ℤ) : Type 0 where
   pub less : n < d
   pub at : pos d *ℤ (m -ℤ l .p) ≡ pos n *ℤ (l .q -ℤ l .p)
 
+-- t is a piece of l: where l has passed x of its length, t has passed `of x` of its own
+pub record PieceOf (of : ℕ → ℕ) (l t : Leg) : Type 0 where
+  pub moves : moving t ≡ moving l
+  pub holds : (s : Slab) → held t s ≡ held l s
+  pub length : moving l ≡ true → factor t ≡ of (factor l)
+  pub passes : moving l ≡ true → (c : ℤ) → passed t c ≡ of (passed l c)
+
+-- the leg l in two pieces, n/d of it being the first
+pub record Pieces (n d : ℕ) (l t u : Leg) : Type 0 where
+  pub near : PieceOf (min (factor t)) l t
+  pub far : PieceOf (λ x. x - factor t) l u
+  pub share : moving l ≡ true → d * factor t ≡ n * factor l
+
 module _ {n d : ℕ} {l : Leg} {m : ℤ} (cut : CutAt n d l m) where
-  module _ (k : ℕ) (hp : Low k (l .p)) (hq : Low k (l .q)) (hm : Low k m) where
-    above′ : d * (shift k m - shift k (l .p)) ≡ n * (shift k (l .q) - shift k (l .p))
-    above′ = share-above k n d m (l .p) (l .q) (l .p) hm hp hq hp (cut .at)
+  module _ {k : ℕ} (hm : Low k m) where
+    module _ {w : Way} (t : Going k w l) where
+      above : d * (shift k m - shift k (l .p)) ≡ n * (shift k (l .q) - shift k (l .p))
+      above = rw (← above-shift k m (l .p) hm (t .low-p), ← above-shift k (l .q) (l .p) (t .low-q) (t .low-p)) (share-above n d (m -ℤ l .p) (l .q -ℤ l .p) (cut .at))
 
-    below′ : d * (shift k (l .p) - shift k m) ≡ n * (shift k (l .p) - shift k (l .q))
-    below′ = share-below k n d m (l .p) (l .q) (l .p) hm hp hq hp (cut .at)
+      below : d * (shift k (l .p) - shift k m) ≡ n * (shift k (l .p) - shift k (l .q))
+      below =
+          rw (← above-shift k (l .p) m (t .low-p) hm, ← above-shift k (l .p) (l .q) (t .low-p) (t .low-q), ← neg-diff m (l .p), ← neg-diff (l .q) (l .p))
+          (share-below n d (m -ℤ l .p) (l .q -ℤ l .p) (cut .at))
 
-    goes : (w : Way) → Goes w (shift k (l .p)) (shift k (l .q)) → Goes w (shift k (l .p)) (shift k m) × Goes w (shift k m) (shift k (l .q))
-    goes up g = let i = inner n d (shift k m - shift k (l .p)) (shift k (l .q) - shift k (l .p)) (cut .some) (cut .less) (omega arith) above′ in (omega arith, omega arith)
-    goes down g = let i = inner n d (shift k (l .p) - shift k m) (shift k (l .p) - shift k (l .q)) (cut .some) (cut .less) (omega arith) below′ in (omega arith, omega arith)
-    goes still g =
-        let a : shift k m - shift k (l .p) ≡ 0 = outer n d (shift k m - shift k (l .p)) (cut .less) (above′ ∙ ap (λ (x : ℕ). n * x) (omega arith)) in
-        let b : shift k (l .p) - shift k m ≡ 0 = outer n d (shift k (l .p) - shift k m) (cut .less) (below′ ∙ ap (λ (x : ℕ). n * x) (omega arith)) in
+    goes : (w : Way) → Going k w l → Goes w (shift k (l .p)) (shift k m) × Goes w (shift k m) (shift k (l .q))
+    goes up t = let i = inner n d (shift k m - shift k (l .p)) (shift k (l .q) - shift k (l .p)) (cut .some) (cut .less) (omega arith) (above t) in (omega arith, omega arith)
+    goes down t = let i = inner n d (shift k (l .p) - shift k m) (shift k (l .p) - shift k (l .q)) (cut .some) (cut .less) (omega arith) (below t) in (omega arith, omega arith)
+    goes still t =
+        let a : shift k m - shift k (l .p) ≡ 0 = outer n d (shift k m - shift k (l .p)) (cut .less) (above t ∙ ap (λ (x : ℕ). n * x) (omega arith)) in
+        let b : shift k (l .p) - shift k m ≡ 0 = outer n d (shift k (l .p) - shift k m) (cut .less) (below t ∙ ap (λ (x : ℕ). n * x) (omega arith)) in
         (omega arith, omega arith)
 
-    moving-before′ : (w : Way) → Goes w (shift k (l .p)) (shift k (l .q)) → moving (before l m) ≡ moving l
-    moving-before′ w g = moving-by k (before l m) hp hm w (goes w g .0) ∙ sym (moving-by k l hp hq w g)
+    first : (w : Way) → Going k w l → Going k w (before l m)
+    first w t = record { low-p = t .low-p; low-q = hm; goes = goes w t .0 }
 
-    moving-after′ : (w : Way) → Goes w (shift k (l .p)) (shift k (l .q)) → moving (after l m) ≡ moving l
-    moving-after′ w g = moving-by k (after l m) hm hq w (goes w g .1) ∙ sym (moving-by k l hp hq w g)
+    last : (w : Way) → Going k w l → Going k w (after l m)
+    last w t = record { low-p = hm; low-q = t .low-q; goes = goes w t .1 }
+
+    -- m lies between the ends, whichever is the lower
+    ordered′ : (w : Way) → Going k w l → ((leZ (l .p) m ≡ true) × (leZ m (l .q) ≡ true)) ⊎ ((leZ (l .q) m ≡ true) × (leZ m (l .p) ≡ true))
+    ordered′ down t = let i = goes down t in inr (shift-le k (l .q) m (t .low-q) hm (omega arith), shift-le k m (l .p) hm (t .low-p) (omega arith))
+    ordered′ up t = let i = goes up t in inl (shift-le k (l .p) m (t .low-p) hm (omega arith), shift-le k m (l .q) hm (t .low-q) (omega arith))
+    ordered′ still t = let i = goes still t in inl (shift-le k (l .p) m (t .low-p) hm (omega arith), shift-le k m (l .q) hm (t .low-q) (omega arith))
 
     module _ (moved : moving l ≡ true) where
-      factors′ : (w : Way) → Goes w (shift k (l .p)) (shift k (l .q)) → factor (before l m) + factor (after l m) ≡ factor l
-      factors′ up g = let i = goes up g in omega (arith, factor-by k (before l m) hp hm up (i .0), factor-by k (after l m) hm hq up (i .1), factor-by k l hp hq up g)
-      factors′ down g = let i = goes down g in omega (arith, factor-by k (before l m) hp hm down (i .0), factor-by k (after l m) hm hq down (i .1), factor-by k l hp hq down g)
-      factors′ still g = off-or-on (moving l) moved (moving-by k l hp hq still g)
+      factors′ : (w : Way) → Going k w l → factor (before l m) + factor (after l m) ≡ factor l
+      factors′ up t = let i = goes up t in omega (arith, factor-by up (first up t), factor-by up (last up t), factor-by up t)
+      factors′ down t = let i = goes down t in omega (arith, factor-by down (first down t), factor-by down (last down t), factor-by down t)
+      factors′ still t = off-or-on (moving l) moved (moving-by still t)
 
-      share′ : (w : Way) → Goes w (shift k (l .p)) (shift k (l .q)) → d * factor (before l m) ≡ n * factor l
-      share′ up g = rw (factor-by k (before l m) hp hm up (goes up g .0), factor-by k l hp hq up g) above′
-      share′ down g = rw (factor-by k (before l m) hp hm down (goes down g .0), factor-by k l hp hq down g) below′
-      share′ still g = off-or-on (moving l) moved (moving-by k l hp hq still g)
+      share′ : (w : Way) → Going k w l → d * factor (before l m) ≡ n * factor l
+      share′ up t = rw (factor-by up (first up t), factor-by up t) (above t)
+      share′ down t = rw (factor-by down (first down t), factor-by down t) (below t)
+      share′ still t = off-or-on (moving l) moved (moving-by still t)
 
-      module _ (c : ℤ) (hc : Low k c) where
-        run-before′ : (w : Way) → Goes w (shift k (l .p)) (shift k (l .q)) → run (before l m) c ≡ run l c
-        run-before′ w g = run-by k (before l m) hp hm c hc w (goes w g .0) ∙ sym (run-by k l hp hq c hc w g)
-
-        run-after′ : (w : Way) → Goes w (shift k (l .p)) (shift k (l .q)) → run (after l m) c ≡ run l c - factor (before l m)
-        run-after′ up g =
-            let i = goes up g in
-            omega (arith, factor-by k (before l m) hp hm up (i .0), run-by k (after l m) hm hq c hc up (i .1), run-by k l hp hq c hc up g)
-        run-after′ down g =
-            let i = goes down g in
-            omega (arith, factor-by k (before l m) hp hm down (i .0), run-by k (after l m) hm hq c hc down (i .1), run-by k l hp hq c hc down g)
-        run-after′ still g = off-or-on (moving l) moved (moving-by k l hp hq still g)
-
-  -- m lies between the ends, whichever is the lower
-  ordered′ : (k : ℕ) → Low k (l .p) → Low k (l .q) → Low k m → (w : Way) → Goes w (shift k (l .p)) (shift k (l .q))
-      → ((leZ (l .p) m ≡ true) × (leZ m (l .q) ≡ true)) ⊎ ((leZ (l .q) m ≡ true) × (leZ m (l .p) ≡ true))
-  ordered′ k hp hq hm up g = let i = goes k hp hq hm up g in inl (shift-le k (l .p) m hp hm (omega arith), shift-le k m (l .q) hm hq (omega arith))
-  ordered′ k hp hq hm down g = let i = goes k hp hq hm down g in inr (shift-le k (l .q) m hq hm (omega arith), shift-le k m (l .p) hm hp (omega arith))
-  ordered′ k hp hq hm still g = let i = goes k hp hq hm still g in inl (shift-le k (l .p) m hp hm (omega arith), shift-le k m (l .q) hm hq (omega arith))
+      run-after′ : (c : ℤ) → Low k c → (w : Way) → Going k w l → run (after l m) c ≡ run l c - factor (before l m)
+      run-after′ c hc up t = let i = goes up t in omega (arith, factor-by up (first up t), run-by c hc up (last up t), run-by c hc up t)
+      run-after′ c hc down t = let i = goes down t in omega (arith, factor-by down (first down t), run-by c hc down (last down t), run-by c hc down t)
+      run-after′ c hc still t = off-or-on (moving l) moved (moving-by still t)
 
   pub ordered : ((leZ (l .p) m ≡ true) × (leZ m (l .q) ≡ true)) ⊎ ((leZ (l .q) m ≡ true) × (leZ m (l .p) ≡ true))
-  ordered = told l m m (λ k hp hq hm hm′. ordered′ k hp hq hm)
+  ordered = told l m m (λ k hm hm′. ordered′ hm)
 
-  pub moving-before : moving (before l m) ≡ moving l
-  moving-before = told l m m (λ k hp hq hm hm′. moving-before′ k hp hq hm)
+  moving-before : moving (before l m) ≡ moving l
+  moving-before = told l m m (λ k hm hm′ w t. moving-by w (first hm w t) ∙ sym (moving-by w t))
 
-  pub moving-after : moving (after l m) ≡ moving l
-  moving-after = told l m m (λ k hp hq hm hm′. moving-after′ k hp hq hm)
-
-  -- a still coordinate stays
-  held-same : (t : Slab) → (l′ : Leg) → moving l′ ≡ moving l → (moving l ≡ false → l′ .p ≡ l .p) → held l′ t ≡ held l t
-  held-same t l′ e f = rw e (go (moving l) refl)
-    where
-      go : (b : Bool) → moving l ≡ b → (b || (leZ (t .lo) (l′ .p) && ltZ (l′ .p) (t .hi))) ≡ (b || (leZ (t .lo) (l .p) && ltZ (l .p) (t .hi)))
-      go true h = refl
-      go false h = ap (λ (z : ℤ). leZ (t .lo) z && ltZ z (t .hi)) (f h)
-
-  pub held-before : (t : Slab) → held (before l m) t ≡ held l t
-  held-before t = held-same t (before l m) moving-before (λ h. refl)
-
-  pub held-after : (t : Slab) → held (after l m) t ≡ held l t
-  held-after t = held-same t (after l m) moving-after (λ h. sym (still-same (before l m) (moving-before ∙ h)))
+  moving-after : moving (after l m) ≡ moving l
+  moving-after = told l m m (λ k hm hm′ w t. moving-by w (last hm w t) ∙ sym (moving-by w t))
 
   module _ (moved : moving l ≡ true) where
-    pub factors : factor (before l m) + factor (after l m) ≡ factor l
-    factors = told l m m (λ k hp hq hm hm′. factors′ k hp hq hm moved)
-
-    pub share : d * factor (before l m) ≡ n * factor l
-    share = told l m m (λ k hp hq hm hm′. share′ k hp hq hm moved)
+    factors : factor (before l m) + factor (after l m) ≡ factor l
+    factors = told l m m (λ k hm hm′. factors′ hm moved)
 
     module _ (c : ℤ) where
       run-before : run (before l m) c ≡ run l c
-      run-before = told l c m (λ k hp hq hc hm. run-before′ k hp hq hm moved c hc)
+      run-before = told l c m (λ k hc hm w t. run-by c hc w (first hm w t) ∙ sym (run-by c hc w t))
 
       run-after : run (after l m) c ≡ run l c - factor (before l m)
-      run-after = told l c m (λ k hp hq hc hm. run-after′ k hp hq hm moved c hc)
+      run-after = told l c m (λ k hc hm. run-after′ hm moved c hc)
 
-      pub passed-before : passed (before l m) c ≡ min (factor (before l m)) (passed l c)
-      passed-before = ap (min (factor (before l m))) run-before ∙ cap-cap (factor (before l m)) (factor l) (run l c) (omega (arith, factors))
-
-      pub passed-after : passed (after l m) c ≡ passed l c - factor (before l m)
-      passed-after = ap (min (factor (after l m))) run-after ∙ cap-rest (factor (before l m)) (factor (after l m)) (factor l) (run l c) factors
+  pub pieces : Pieces n d l (before l m) (after l m)
+  pieces = record {
+    near = record {
+      moves = moving-before;
+      holds = held-same l (before l m) moving-before (λ h. refl);
+      length = λ h. omega (arith, factors h);
+      passes = λ h c. rw (run-before h c) (cap-cap (factor (before l m)) (factor l) (run l c) (omega (arith, factors h)));
+    };
+    far = record {
+      moves = moving-after;
+      holds = held-same l (after l m) moving-after (λ h. sym (still-same (before l m) (moving-before ∙ h)));
+      length = λ h. omega (arith, factors h);
+      passes = λ h c. rw (run-after h c) (cap-rest (factor (before l m)) (factor (after l m)) (factor l) (run l c) (factors h));
+    };
+    share = λ h. told l m m (λ k hm hm′. share′ hm h);
+  }

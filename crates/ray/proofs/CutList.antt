@@ -1,10 +1,10 @@
 -- Demand 3, a ray cut at a point of whole coordinates: its list is its pieces' lists joined. Assumes nothing.
-use Prim.Native.Nat.{ℕ, zero, suc, _+_, _-_, _*_, _≤_, _<_}
+use Prim.Native.Nat.{ℕ, zero, suc, _+_, _-_, _*_, _≤_, _<_, min}
 use mathlib.Core.Path.{_≡_, refl, sym, ap}
 use mathlib.Core.Bool.{true}
 use mathlib.Core.List.{List, [], _∷_, List·Memᴰ, List·Memᴰ·head, List·Memᴰ·tail}
 use mathlib.Core.Logic.{_⊎_, inl, inr, ⊎-elim}
-use native.Mathlib.Nat.{zero-mul, mul-pos, mul-lt-mul-of-pos-right, lt-of-mul-lt-mul-right}
+use native.Mathlib.Nat.{zero-mul, mul-pos, lt-of-lt-of-le}
 use native.Mathlib.Omega.{arith}
 use native.Mathlib.Decide.{decLt}
 use Rattle.axis.specs.Leg.{moving}
@@ -19,7 +19,7 @@ use Rattle.ray.proofs.Listing.{Listed, starts, list-sound, list-whole, 
 use Rattle.ray.proofs.Capped.{part, part-voxel, d-pos, met}
 use Rattle.ray.proofs.Planes.{Rise, grid-rise}
 use Rattle.ray.proofs.Apart.{voxel-apart, starts-apart}
-use Rattle.ray.proofs.CutBox.{Between, near, far, upTo, onFrom, up-to-pos, on-from-pos, parts, NearMet, near-met, FarMet, far-met}
+use Rattle.ray.proofs.CutBox.{Between, near, far, scaled-order, Piece, lower, size-pos, PieceMet, piece-met, upTo, near-piece, far-piece, parts}
 use Rattle.ray.proofs.Cut.{difference, Mean, differences, voxel-cut, sum-cut, same-quotient, same-quotient-far}
 use Rattle.ray.proofs.Ends.{moves-on}
 use Rattle.ray.proofs.Seam.{joined, joined-cases, joined-left, joined-right, joined-rising, Below}
@@ -40,60 +40,46 @@ some-piece p k zero c df zero e dn hp hk h =
 absent : (v : Volume) (r : Ray) (w : ℕ) → w < count v → (List·Memᴰ w (listOf v r) → ⊥) → partOf v r w ≡ 0
 absent v r w h out = elim (decLt 0 (partOf v r w)) [ yes p ↦ absurd (out (list-whole v r w h p)) | no p ↦ omega arith ]
 
-scaled-order : (a b c t u d : ℕ) → 0 < c → a * c ≡ t * d → b * c ≡ u * d → a < b → t < u
-scaled-order a b c t u d hc ha hb l = lt-of-mul-lt-mul-right d (omega (arith, mul-lt-mul-of-pos-right {m = a} {n = b} {k = c} l hc))
+-- ---- one piece
+
+module _ (v : Volume) {of : ℕ → ℕ} {r t : Ray} (piece : Piece of r t) (o : Side) (moves : moving (leg r o) ≡ true) where
+  met-in : (w : ℕ) → List·Memᴰ w (listOf v t) → (w < count v) × PieceMet piece (voxel v w)
+  met-in w h = let s = list-sound v t w h in (s .0, piece-met piece (voxel v w) o moves (rw (part-voxel v t w) at (s .1)))
+
+  piece-rising : Rise v → Rising (starts v r) (listOf v t)
+  piece-rising rise = rising-as (starts v t) (starts v r) (listOf v t)
+      (λ a b ma mb l. lower (piece .rises) (starts v r a) (starts v r b)
+      (scaled-order (starts v t a) (starts v t b) (of (dOf r)) (of (starts v r a)) (of (starts v r b)) (dOf t) (size-pos piece o moves) (met-in a ma .1 .at) (met-in b mb .1 .at) l))
+      (list-listed v t (starts-apart v rise t) .rising)
+
+-- ---- both
 
 module _ (v : Volume) (rise : Rise v) (r : Ray) (m : End) (between : Between r m) (o : Side) (moves : moving (leg r o) ≡ true) where
-  in-near : (w : ℕ) → List·Memᴰ w (listOf v (near r m)) → (w < count v) × NearMet r m between o moves (voxel v w)
-  in-near w h =
-      let s = list-sound v (near r m) w h in
-      (s .0, near-met r m between o moves (voxel v w) (rw (part-voxel v (near r m) w) at (s .1)))
+  abbrev in-near : (w : ℕ) → List·Memᴰ w (listOf v (near r m)) → (w < count v) × PieceMet (near-piece r m between o moves) (voxel v w)
+  in-near = met-in v (near-piece r m between o moves) o moves
 
-  in-far : (w : ℕ) → List·Memᴰ w (listOf v (far r m)) → (w < count v) × FarMet r m between o moves (voxel v w)
-  in-far w h =
-      let s = list-sound v (far r m) w h in
-      (s .0, far-met r m between o moves (voxel v w) (rw (part-voxel v (far r m) w) at (s .1)))
-
-  near-rising : Rising (starts v r) (listOf v (near r m))
-  near-rising = rising-as (starts v (near r m)) (starts v r) (listOf v (near r m))
-      (λ a b ma mb l. scaled-order (starts v (near r m) a) (starts v (near r m) b) (upTo r m between o moves) (starts v r a) (starts v r b) (dOf (near r m)) (up-to-pos r m between o moves)
-      (in-near a ma .1 .at) (in-near b mb .1 .at) l)
-      (list-listed v (near r m) (starts-apart v rise (near r m)) .rising)
-
-  far-rising : Rising (starts v r) (listOf v (far r m))
-  far-rising = rising-as (starts v (far r m)) (starts v r) (listOf v (far r m))
-      (λ a b ma mb l. less-of-gap (starts v r a) (starts v r b) (upTo r m between o moves) (scaled-order (starts v (far r m) a) (starts v (far r m) b) (onFrom r m between o moves) (starts v r a - upTo r m between o moves) (starts v r b - upTo r m between o moves) (dOf (far r m)) (on-from-pos r m between o moves)
-      (in-far a ma .1 .at) (in-far b mb .1 .at) l))
-      (list-listed v (far r m) (starts-apart v rise (far r m)) .rising)
-    where
-      less-of-gap : (a b c : ℕ) → a - c < b - c → a < b
-      less-of-gap a b c h = omega arith
+  abbrev in-far : (w : ℕ) → List·Memᴰ w (listOf v (far r m)) → (w < count v) × PieceMet (far-piece r m between o moves) (voxel v w)
+  in-far = met-in v (far-piece r m between o moves) o moves
 
   below : Below (starts v r) (listOf v (near r m)) (listOf v (far r m))
   below u w mu mw h =
       let (lu, nu) = in-near u mu in
       let (lw, fw) = in-far w mw in
       ⊎-elim
-      (λ l. before (starts v r u) (stop r (voxel v u)) (starts v r w) (met r (voxel v u) (nu .some) .some) l)
-      (λ l. absurd (clash (starts v r u) (stop r (voxel v w)) (upTo r m between o moves) (nu .early) (fw .late) l))
+      (λ l. lt-of-lt-of-le (met r (voxel v u) (nu .some) .some) l)
+      (λ l. absurd (clash (starts v r u) (stop r (voxel v u)) (starts v r w) (stop r (voxel v w)) (upTo r m between o moves) (nu .ahead) (fw .ahead) l))
       (voxel-apart v rise r u w lu lw (rw (part-voxel v r u) (nu .some)) (rw (part-voxel v r w) (fw .some)) h)
     where
-      before : (a b c : ℕ) → a < b → b ≤ c → a < c
-      before a b c h k = omega arith
-
-      clash : (a b c : ℕ) → a < c → c < b → b ≤ a → ⊥
-      clash a b c h k l = omega arith
+      clash : (a a′ b b′ c : ℕ) → min c a < min c a′ → b - c < b′ - c → b′ ≤ a → ⊥
+      clash a a′ b b′ c h k l = omega arith
 
   either : (w : ℕ) → 0 < partOf v r w → (0 < partOf v (near r m) w) ⊎ (0 < partOf v (far r m) w)
   either w h =
       rw (part-voxel v (near r m) w, part-voxel v (far r m) w)
-      (some-piece (part r (voxel v w)) (dOf (near r m) * dOf (far r m)) (part (near r m) (voxel v w)) (upTo r m between o moves) (dOf (far r m)) (part (far r m) (voxel v w)) (onFrom r m between o moves) (dOf (near r m))
-      (rw (part-voxel v r w) at h)
-      (mul-pos (d-pos (near r m)) (d-pos (far r m)))
-      (parts r m between o moves (voxel v w)))
+      (some-piece _ _ _ _ (dOf (far r m)) _ _ (dOf (near r m)) (rw (part-voxel v r w) at h) (mul-pos (d-pos (near r m)) (d-pos (far r m))) (parts r m between o moves (voxel v w)))
 
-  pieces : Listed (starts v r) (partOf v r) (count v) (joined (listOf v (near r m)) (listOf v (far r m)))
-  pieces = record {
+  listed : Listed (starts v r) (partOf v r) (count v) (joined (listOf v (near r m)) (listOf v (far r m)))
+  listed = record {
     sound = λ w h. ⊎-elim
         (λ k. (in-near w k .0, rw (part-voxel v r w) (in-near w k .1 .some)))
         (λ k. (in-far w k .0, rw (part-voxel v r w) (in-far w k .1 .some)))
@@ -102,13 +88,13 @@ module _ (v : Volume) (rise : Rise v) (r : Ray) (m : End) (between : Between r m
         (λ k. joined-left (listOf v (far r m)) w (listOf v (near r m)) (list-whole v (near r m) w i k))
         (λ k. joined-right (listOf v (far r m)) w (listOf v (near r m)) (list-whole v (far r m) w i k))
         (either w h);
-    rising = joined-rising (starts v r) (listOf v (near r m)) (listOf v (far r m)) near-rising far-rising below;
+    rising = joined-rising (starts v r) _ _ (piece-rising v (near-piece r m between o moves) o moves rise) (piece-rising v (far-piece r m between o moves) o moves rise) below;
   }
 
   -- The voxels from P to Q are those from P to M followed by those from M to Q, the two at the seam becoming one where they are the
   -- same voxel.
   pub list-cut : listOf v r ≡ joined (listOf v (near r m)) (listOf v (far r m))
-  list-cut = sym (list-is v r (starts-apart v rise r) (joined (listOf v (near r m)) (listOf v (far r m))) pieces)
+  list-cut = sym (list-is v r (starts-apart v rise r) (joined (listOf v (near r m)) (listOf v (far r m))) listed)
 
 -- All of it. PM/PQ and MQ/PQ are the quotients of the coordinate differences, the same on every moving axis, and make up 1. Weighted
 -- by them the pieces' parts in a voxel, each over the piece's own D, make up the ray's part over D; a piece that does not list the

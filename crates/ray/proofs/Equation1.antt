@@ -25,7 +25,7 @@ equation1 v r densities = totalᶠ (λ m. times (lengthIn r (voxel v m)) (getD d
 total-is : (d : ℕ) (f : ℕ → Fraction) (g : ℕ → ℕ) → Is d (whole 0) 0 → ((m : ℕ) → Is d (f m) (g m)) → (n : ℕ) → Is d (totalᶠ f n) (total g n)
 unfolding totalᶠ total
 total-is d f g o h zero = o
-total-is d f g o h (suc n) = plus-is d (total-is d f g o h n) (h n)
+total-is d f g o h (suc n) = plus-is (total-is d f g o h n) (h n)
 
 -- The weighted sum over D is the sum of equation (1).
 pub equation1-is : (v : Volume) (r : Ray) (densities : List ℕ) → Is (dOf r) (equation1 v r densities) (sumOf v r densities)
@@ -33,5 +33,5 @@ unfolding equation1 sumOf
 equation1-is v r densities =
     total-is (dOf r) (λ m. times (lengthIn r (voxel v m)) (getD densities m 0)) (λ m. partOf v r m * getD densities m 0)
     (record { d-pos = d-pos r; den-pos = omega arith; is = ap pos (zero-mul (dOf r)) })
-    (λ m. times-is (dOf r) (voxel-length v r m) (getD densities m 0))
+    (λ m. times-is (voxel-length v r m) (getD densities m 0))
     (count v)

@@ -1,20 +1,22 @@
 -- The length in one voxel, αmin and αmax (RULES 3, 4) in whole numbers and fractions; and that part, start and stop over D are those.
 -- Assumes nothing.
-use Prim.Native.Nat.{ℕ, zero, suc, _-_, _*_, _≤_, _<_, min, max}
+use Prim.Native.Nat.{ℕ, zero, suc, _*_, _≤_, _<_, min, max}
 use mathlib.Core.Path.{_≡_, refl, sym, ap, ap₂, _∙_}
 use mathlib.Core.Bool.{Bool, true, false, cond, true≢false}
 use mathlib.Core.List.{List, [], _∷_, map}
+use mathlib.Core.Logic.{inl, inr}
 use native.Mathlib.Nat.{mul-assoc, mul-comm, min-eq-right, min-le-right, min-comm, zero-max, max-zero, zero-mul, le-refl, le-trans}
 use native.Mathlib.Omega.{arith}
 use lib.IntN.{ℤ, pos, negsuc, negℤ, natAbs, _-ℤ_, _*ℤ_, *ℤ-comm, *ℤ-zero, zero-*ℤ}
-use lib.Signed.{ltZ, leZ, nonNeg}
+use lib.Signed.{ltZ, leZ}
+use lib.Dec.{leb, leb·zero}
 use borrow.Author.Tests.{not-true}
 use Rattle.axis.specs.Leg.{Leg, moving, factor, run, natural, Slab, enters, leaves}
 use Rattle.ray.specs.declared.Ray.{Ray}
 use Rattle.ray.specs.Length.{Side, X, Y, Z, leg, dOf, rest, Volume, voxel, holds, start, stop, partOf}
 use Rattle.ray.proofs.Through.{min-rises, max-rises, times-rises}
-use Rattle.ray.proofs.MovedAxis.{le-sign, lt-le}
-use Rattle.ray.proofs.Told.{neg-diff}
+use Rattle.ray.proofs.Tests.{tested}
+use Rattle.ray.proofs.Told.{lt-le, le-diff, neg-diff}
 use Rattle.ray.proofs.Way.{factor-pos}
 use Rattle.ray.proofs.Capped.{d-side, d-pos, still-rest, part, part-voxel}
 use Rattle.ray.proofs.Fraction.{Fraction, lesser, greater, minus, whole, orZero, least, greatest, At, lesser-at, greater-at, Least0, greater-least0, minus-at, Is, exact, above-zero, or-zero}
@@ -56,22 +58,21 @@ both-neg (negsuc a) (suc n) = ap (λ (x : ℕ). negℤ (pos x)) (mul-comm (suc a
 
 -- α times (q - p) is c - p
 pub α-is : (l : Leg) (c : ℤ) → moving l ≡ true → α l c .num *ℤ (l .q -ℤ l .p) ≡ pos (α l c .den) *ℤ (c -ℤ l .p)
-α-is l c m = go (ltZ (l .p) (l .q)) refl
+α-is l c m = elim (tested (ltZ (l .p) (l .q))) [
+  | inl h ↦ rw h (ap (λ (z : ℤ). (c -ℤ l .p) *ℤ z) (ahead (l .p) (l .q) h) ∙ *ℤ-comm (c -ℤ l .p) (pos (natAbs (l .q -ℤ l .p))))
+  | inr h ↦
+      let n : ℕ = natAbs (l .p -ℤ l .q) in
+      let e : l .q -ℤ l .p ≡ negℤ (pos n) = sym (neg-diff (l .p) (l .q)) ∙ ap negℤ (ahead (l .q) (l .p) (rw h at m)) in
+      rw h (ap₂ _*ℤ_ (sym (neg-diff c (l .p))) e ∙ both-neg (c -ℤ l .p) n ∙ ap (λ (z : ℤ). pos (natAbs z) *ℤ (c -ℤ l .p)) (sym e))
+]
   where
     -- x below y: the difference is a number without a sign
     ahead : (x y : ℤ) → ltZ x y ≡ true → y -ℤ x ≡ pos (natAbs (y -ℤ x))
-    ahead x y h = positive (y -ℤ x) (ap nonNeg (neg-diff y x) ∙ sym (le-sign y x) ∙ not-true (leZ y x) (sym (lt-le x y) ∙ h))
+    ahead x y h = positive (y -ℤ x) (sym (le-diff y x) ∙ not-true (leZ y x) (sym (lt-le x y) ∙ h))
       where
-        positive : (z : ℤ) → nonNeg (negℤ z) ≡ false → z ≡ pos (natAbs z)
+        positive : (z : ℤ) → leb (natural z) 0 ≡ false → z ≡ pos (natAbs z)
         positive (pos n) e = refl
-        positive (negsuc n) e = absurd (true≢false e)
-
-    go : (t : Bool) → ltZ (l .p) (l .q) ≡ t → cond t (c -ℤ l .p) (l .p -ℤ c) *ℤ (l .q -ℤ l .p) ≡ pos (natAbs (l .q -ℤ l .p)) *ℤ (c -ℤ l .p)
-    go true h = ap (λ (z : ℤ). (c -ℤ l .p) *ℤ z) (ahead (l .p) (l .q) h) ∙ *ℤ-comm (c -ℤ l .p) (pos (natAbs (l .q -ℤ l .p)))
-    go false h =
-        let n : ℕ = natAbs (l .p -ℤ l .q) in
-        let e : l .q -ℤ l .p ≡ negℤ (pos n) = sym (neg-diff (l .p) (l .q)) ∙ ap negℤ (ahead (l .q) (l .p) (rw h at m)) in
-        ap₂ _*ℤ_ (sym (neg-diff c (l .p))) e ∙ both-neg (c -ℤ l .p) n ∙ ap (λ (z : ℤ). pos (natAbs z) *ℤ (c -ℤ l .p)) (sym e)
+        positive (negsuc n) e = absurd (true≢false (sym (leb·zero 0) ∙ e))
 
 -- ---- in units of 1/D
 
@@ -121,31 +122,28 @@ module _ (r : Ray) where
     least-at : (ss : List Side) → At (dOf r) (least (whole 1) (map (greaterα r b) (movers r ss))) (lowest ss)
     unfolding lowest least movers leave
     least-at [] = record { d-pos = d-pos r; den-pos = omega arith; at = mul-comm 1 (dOf r) }
-    least-at (s ∷ ss) = go (least-at ss) (moving (leg r s)) refl
-      where
-        go : At (dOf r) (least (whole 1) (map (greaterα r b) (movers r ss))) (lowest ss) → (m : Bool) → moving (leg r s) ≡ m → At (dOf r) (least (whole 1) (map (greaterα r b) (cond m (s ∷ movers r ss) (movers r ss)))) (min (cond m (max (run (leg r s) (b s .lo)) (run (leg r s) (b s .hi)) * rest r s) (rest r s)) (lowest ss))
-        go p true h = rw (← max-rises (λ x. x * rest r s) (times-rises (rest r s)) (run (leg r s) (b s .lo)) (run (leg r s) (b s .hi)))
-            (lesser-at (dOf r) (greater-at (dOf r) (α-at s (b s .lo) h) (α-at s (b s .hi) h)) p)
-        go p false h = rw (← still-rest r s h, min-eq-right (lowest-cap ss)) p
+    least-at (s ∷ ss) = elim (tested (moving (leg r s))) [
+      | inl h ↦ rw (h, ← max-rises (λ x. x * rest r s) (times-rises (rest r s)) (run (leg r s) (b s .lo)) (run (leg r s) (b s .hi)))
+          (lesser-at (greater-at (α-at s (b s .lo) h) (α-at s (b s .hi) h)) (least-at ss))
+      | inr h ↦ rw (h, ← still-rest r s h, min-eq-right (lowest-cap ss)) (least-at ss)
+    ]
 
     greatest-at : (ss : List Side) → At (dOf r) (greatest (whole 0) (map (lesserα r b) (movers r ss))) (highest ss)
     unfolding highest greatest movers enter
     greatest-at [] = record { d-pos = d-pos r; den-pos = omega arith; at = zero-mul (dOf r) }
-    greatest-at (s ∷ ss) = go (greatest-at ss) (moving (leg r s)) refl
-      where
-        go : At (dOf r) (greatest (whole 0) (map (lesserα r b) (movers r ss))) (highest ss) → (m : Bool) → moving (leg r s) ≡ m → At (dOf r) (greatest (whole 0) (map (lesserα r b) (cond m (s ∷ movers r ss) (movers r ss)))) (max (cond m (min (run (leg r s) (b s .lo)) (run (leg r s) (b s .hi)) * rest r s) 0) (highest ss))
-        go p true h = rw (← min-rises (λ x. x * rest r s) (times-rises (rest r s)) (run (leg r s) (b s .lo)) (run (leg r s) (b s .hi)))
-            (greater-at (dOf r) (lesser-at (dOf r) (α-at s (b s .lo) h) (α-at s (b s .hi) h)) p)
-        go p false h = rw (zero-max (highest ss)) p
+    greatest-at (s ∷ ss) = elim (tested (moving (leg r s))) [
+      | inl h ↦ rw (h, ← min-rises (λ x. x * rest r s) (times-rises (rest r s)) (run (leg r s) (b s .lo)) (run (leg r s) (b s .hi)))
+          (greater-at (lesser-at (α-at s (b s .lo) h) (α-at s (b s .hi) h)) (greatest-at ss))
+      | inr h ↦ rw (h, zero-max (highest ss)) (greatest-at ss)
+    ]
 
     greatest-least0 : (ss : List Side) → Least0 (greatest (whole 0) (map (lesserα r b) (movers r ss)))
     unfolding greatest movers
     greatest-least0 [] = refl
-    greatest-least0 (s ∷ ss) = go (greatest-least0 ss) (moving (leg r s))
-      where
-        go : Least0 (greatest (whole 0) (map (lesserα r b) (movers r ss))) → (m : Bool) → Least0 (greatest (whole 0) (map (lesserα r b) (cond m (s ∷ movers r ss) (movers r ss))))
-        go p true = greater-least0 (lesserα r b s) (greatest (whole 0) (map (lesserα r b) (movers r ss))) p
-        go p false = p
+    greatest-least0 (s ∷ ss) = elim (tested (moving (leg r s))) [
+      | inl h ↦ rw h (greater-least0 (lesserα r b s) (greatest (whole 0) (map (lesserα r b) (movers r ss))) (greatest-least0 ss))
+      | inr h ↦ rw h (greatest-least0 ss)
+    ]
 
     pub αmin-least0 : Least0 (αmin r b)
     αmin-least0 = greatest-least0 (X ∷ Y ∷ Z ∷ [])
@@ -160,22 +158,21 @@ module _ (r : Ray) where
 
     -- αmin is start over D, whatever the ray. αmax, or zero if it is negative, is stop over D, and αmax itself where the ray meets the box.
     pub αmin-is : Is (dOf r) (αmin r b) (start r b)
-    αmin-is = exact (dOf r) αmin-at αmin-least0
+    αmin-is = exact αmin-at αmin-least0
 
     pub αmax-or-zero : Is (dOf r) (orZero (αmax r b)) (stop r b)
-    αmax-or-zero = or-zero (dOf r) αmax-at
+    αmax-or-zero = or-zero αmax-at
 
     pub αmax-is : start r b < stop r b → Is (dOf r) (αmax r b) (stop r b)
-    αmax-is h = above-zero (dOf r) αmax-at (omega (arith, h))
+    αmax-is h = above-zero αmax-at (omega (arith, h))
 
     -- The length in a box is part over D.
     pub length-is : Is (dOf r) (lengthIn r b) (part r b)
     unfolding part
-    length-is = go (holds r b)
-      where
-        go : (t : Bool) → Is (dOf r) (cond t (orZero (minus (αmax r b) (αmin r b))) (whole 0)) (cond t (stop r b - start r b) 0)
-        go true = or-zero (dOf r) (minus-at (dOf r) αmax-at αmin-at αmin-least0)
-        go false = record { d-pos = d-pos r; den-pos = omega arith; is = ap pos (zero-mul (dOf r)) }
+    length-is = elim (tested (holds r b)) [
+      | inl h ↦ rw h (or-zero (minus-at αmax-at αmin-at αmin-least0))
+      | inr h ↦ rw h (record { d-pos = d-pos r; den-pos = omega arith; is = ap pos (zero-mul (dOf r)) })
+    ]
 
 -- So of every voxel.
 pub voxel-length : (v : Volume) (r : Ray) (m : ℕ) → Is (dOf r) (lengthIn r (voxel v m)) (partOf v r m)

@@ -1,14 +1,16 @@
 -- Hit and miss, span and planes crossed (RULES 4), told by the fractions αmin and αmax of the array. Assumes nothing.
-use Prim.Native.Nat.{ℕ, _-_, _*_, _<_}
-use mathlib.Core.Path.{_≡_, refl, sym, ap}
-use mathlib.Core.Bool.{Bool, true, false, _&&_, _||_, not}
+use Prim.Native.Nat.{ℕ, _-_, _<_}
+use mathlib.Core.Path.{_≡_, sym, ap}
+use mathlib.Core.Bool.{Bool, false, _&&_, _||_, not}
+use mathlib.Core.Logic.{inl, inr}
 use native.Mathlib.Omega.{arith}
-use lib.Dec.{leb, ltb}
+use lib.Dec.{leb}
 use borrow.Author.Tests.{leb-false}
-use Rattle.axis.specs.Leg.{moving, run}
+use Rattle.axis.specs.Leg.{moving}
 use Rattle.axis.proofs.Flag.{or-left}
 use Rattle.ray.specs.declared.Ray.{Ray}
-use Rattle.ray.specs.Length.{Side, leg, dOf, rest, Volume, array, holds, start, stop, misses, spanOf, crosses}
+use Rattle.ray.specs.Length.{Side, leg, dOf, Volume, array, holds, start, stop, misses, spanOf, crosses}
+use Rattle.ray.proofs.Tests.{tested}
 use Rattle.ray.proofs.Fraction.{_≤ᶠ_, _<ᶠ_, minus, Is, above-zero, le-at, between-at, minus-at}
 use Rattle.ray.proofs.Formula.{α, α-at, αmin, αmax, αmin-at, αmax-at, αmin-least0, αmax-is}
 
@@ -16,7 +18,7 @@ module _ (v : Volume) (r : Ray) where
   -- A miss is αmax ≤ αmin, or a still coordinate that the array does not hold.
   pub misses-are : misses v r ≡ ((αmax r (array v) ≤ᶠ αmin r (array v)) || not (holds r (array v)))
   unfolding misses
-  misses-are = ap (λ (t : Bool). t || not (holds r (array v))) (sym (le-at (dOf r) (αmax-at r (array v)) (αmin-at r (array v)) (αmin-least0 r (array v))))
+  misses-are = ap (λ (t : Bool). t || not (holds r (array v))) (sym (le-at (αmax-at r (array v)) (αmin-at r (array v)) (αmin-least0 r (array v))))
 
   module _ (hit : misses v r ≡ false) where
     pub ahead : start r (array v) < stop r (array v)
@@ -30,7 +32,7 @@ module _ (v : Volume) (r : Ray) where
     pub span-hit : Is (dOf r) (minus (αmax r (array v)) (αmin r (array v))) (spanOf v r)
     unfolding spanOf
     span-hit = rw hit
-        (above-zero (dOf r) (minus-at (dOf r) (αmax-at r (array v)) (αmin-at r (array v)) (αmin-least0 r (array v))) (some (stop r (array v)) (start r (array v)) ahead))
+        (above-zero (minus-at (αmax-at r (array v)) (αmin-at r (array v)) (αmin-least0 r (array v))) (some (stop r (array v)) (start r (array v)) ahead))
       where
         some : (a b : ℕ) → b < a → 0 < a - b
         some a b h = omega arith
@@ -39,10 +41,7 @@ module _ (v : Volume) (r : Ray) where
   pub crosses-are : (s : Side) (i : ℕ)
       → crosses v r s i ≡ (moving (leg r s) && ((αmin r (array v) <ᶠ α (leg r s) (v s .at i)) && (α (leg r s) (v s .at i) <ᶠ αmax r (array v))))
   unfolding crosses
-  crosses-are s i = go (moving (leg r s)) refl
-    where
-      go : (m : Bool) → moving (leg r s) ≡ m
-          → (m && (ltb (start r (array v)) (run (leg r s) (v s .at i) * rest r s) && ltb (run (leg r s) (v s .at i) * rest r s) (stop r (array v))))
-          ≡ (m && ((αmin r (array v) <ᶠ α (leg r s) (v s .at i)) && (α (leg r s) (v s .at i) <ᶠ αmax r (array v))))
-      go false h = refl
-      go true h = sym (between-at (dOf r) (αmin-at r (array v)) (α-at r s (v s .at i) h) (αmax-at r (array v)) (αmin-least0 r (array v)))
+  crosses-are s i = elim (tested (moving (leg r s))) [
+    | inl h ↦ rw h (sym (between-at (αmin-at r (array v)) (α-at r s (v s .at i) h) (αmax-at r (array v)) (αmin-least0 r (array v))))
+    | inr h ↦ rw h
+  ]

@@ -7,12 +7,13 @@ pub mod Total
 pub mod Rising
 pub mod Insert
 pub mod Listing
+pub mod Tests
+pub mod Told
 pub mod MovedAxis
 pub mod Moved
 pub mod Weighted
 pub mod Through
 pub mod Down
-pub mod Told
 pub mod Way
 pub mod Capped
 pub mod Turned

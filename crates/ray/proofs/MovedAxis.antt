@@ -1,34 +1,13 @@
 -- One axis moved by a whole number k, ray and planes alike: nothing changes that is told from differences and the order.
 -- No bound on any number. Assumes nothing.
-use Prim.Native.Nat.{ℕ, zero, suc, _*_, min, max}
-use mathlib.Core.Path.{_≡_, refl, sym, ap, ap₂, _∙_}
+use Prim.Native.Nat.{ℕ, _*_, min, max}
+use mathlib.Core.Path.{_≡_, sym, ap, ap₂, _∙_}
 use mathlib.Core.Bool.{Bool, _&&_, _||_, not, cond}
-use native.Mathlib.Omega.{arith}
-use native.Mathlib.Decide.{decLt}
-use lib.IntN.{ℤ, pos, negsuc, negℤ, natAbs, subℕ, _+ℤ_, _-ℤ_, +ℤ-assoc, +ℤ-comm, +ℤ-invr, +ℤ-idl, negℤ-+ℤ}
-use lib.Signed.{leZ, ltZ, nonNeg}
-use lib.Dec.{leb, leb·zero, leb·suc-zero, leb·suc-suc}
-use borrow.Author.Tests.{lt-ltb, le-ltb, lt-leb, le-leb}
+use lib.IntN.{ℤ, negℤ, natAbs, _+ℤ_, _-ℤ_, +ℤ-assoc, +ℤ-comm, +ℤ-invr, +ℤ-idl, negℤ-+ℤ}
+use lib.Signed.{leZ, ltZ}
+use lib.Dec.{leb}
 use Rattle.axis.specs.Leg.{Leg, Slab, natural, moving, factor, run, held, enters, leaves}
-use Rattle.axis.proofs.Flag.{lt-not-le}
-
--- the order is the sign of the difference
-sign-sub : (a b : ℕ) → nonNeg (subℕ a b) ≡ leb b a
-sign-sub a b = elim (decLt a b) [ yes h ↦ rw (lt-ltb a b h, lt-leb b a h) | no h ↦ rw (le-ltb a b (omega arith), le-leb b a (omega arith)) ]
-
-pub le-sign : (a b : ℤ) → leZ a b ≡ nonNeg (b -ℤ a)
-le-sign (pos zero) (pos b) = leb·zero b
-le-sign (pos (suc a)) (pos b) = sym (sign-sub b (suc a))
-le-sign (pos zero) (negsuc b) = sym (sign-sub 0 (suc b) ∙ leb·suc-zero b)
-le-sign (pos (suc a)) (negsuc b) = refl
-le-sign (negsuc a) (pos b) = refl
-le-sign (negsuc a) (negsuc b) = sym (sign-sub (suc a) (suc b) ∙ leb·suc-suc b a)
-
-pub lt-le : (a b : ℤ) → ltZ a b ≡ not (leZ b a)
-lt-le (pos a) (pos b) = lt-not-le a b
-lt-le (pos a) (negsuc b) = refl
-lt-le (negsuc a) (pos b) = refl
-lt-le (negsuc a) (negsuc b) = lt-not-le b a
+use Rattle.ray.proofs.Told.{lt-le, le-diff}
 
 module _ (k : ℤ) where
   pub diff-on : (a b : ℤ) → (a +ℤ k) -ℤ (b +ℤ k) ≡ a -ℤ b
@@ -38,7 +17,7 @@ module _ (k : ℤ) where
       ∙ ap (λ (z : ℤ). a +ℤ z) (sym (+ℤ-assoc k (negℤ k) (negℤ b)) ∙ ap (λ (z : ℤ). z +ℤ negℤ b) (+ℤ-invr k) ∙ +ℤ-idl (negℤ b))
 
   le-on : (a b : ℤ) → leZ (a +ℤ k) (b +ℤ k) ≡ leZ a b
-  le-on a b = le-sign (a +ℤ k) (b +ℤ k) ∙ ap nonNeg (diff-on b a) ∙ sym (le-sign a b)
+  le-on a b = le-diff (a +ℤ k) (b +ℤ k) ∙ ap (λ (z : ℤ). leb (natural z) 0) (diff-on a b) ∙ sym (le-diff a b)
 
   lt-on : (a b : ℤ) → ltZ (a +ℤ k) (b +ℤ k) ≡ ltZ a b
   lt-on a b = lt-le (a +ℤ k) (b +ℤ k) ∙ ap not (le-on b a) ∙ sym (lt-le a b)

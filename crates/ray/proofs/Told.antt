@@ -6,12 +6,11 @@ use native.Mathlib.Nat.{mul-zero}
 use native.Mathlib.Omega.{arith}
 use lib.IntN.{ℤ, pos, negsuc, negℤ, natAbs, _+ℤ_, _-ℤ_, _*ℤ_, negℤ-+ℤ, negℤ-negℤ, +ℤ-comm, +ℤ-negℤ-cancel}
 use lib.Signed.{leZ, ltZ}
-use lib.Dec.{ltb, le→leb}
-use borrow.Author.Tests.{le-ltb, lt-ltb, ltb-true, leb-true, le-leb}
+use lib.Dec.{leb, ltb, le→leb}
+use borrow.Author.Tests.{le-ltb, lt-ltb, ltb-true, leb-true, leb-false, le-leb}
 use Rattle.axis.specs.Leg.{natural}
-use Rattle.axis.proofs.Flag.{lt-not-le}
+use Rattle.axis.proofs.Flag.{lt-not-le, leb-same}
 use Rattle.axis.proofs.Shift.{shift, Low, low-pos, shift-is, shift-order, shift-add, low-add, above-shift}
-use Rattle.ray.proofs.MovedAxis.{lt-le}
 
 pub low-abs : (k : ℕ) (z : ℤ) → natAbs z ≤ k → Low k z
 low-abs k (pos n) h = low-pos k n
@@ -34,10 +33,23 @@ natural-times : (d : ℕ) (z : ℤ) → natural (pos d *ℤ z) ≡ d * natural z
 natural-times d (pos n) = refl
 natural-times d (negsuc n) = neg-none (d * suc n) ∙ sym (mul-zero d)
 
-natural-times-neg : (d : ℕ) (z : ℤ) → natural (negℤ (pos d *ℤ z)) ≡ d * natural (negℤ z)
-natural-times-neg d (pos zero) = neg-none (d * 0) ∙ sym (mul-zero d)
-natural-times-neg d (pos (suc n)) = neg-none (d * suc n) ∙ sym (mul-zero d)
-natural-times-neg d (negsuc n) = ap natural (negℤ-negℤ (pos (d * suc n)))
+times-neg : (d : ℕ) (z : ℤ) → pos d *ℤ negℤ z ≡ negℤ (pos d *ℤ z)
+times-neg d (pos zero) = rw (mul-zero d)
+times-neg d (pos (suc n)) = refl
+times-neg d (negsuc n) = sym (negℤ-negℤ (pos (d * suc n)))
+
+-- n/d of a whole number: n/d of its part above 0, and of that below
+pub share-above : (n d : ℕ) (z w : ℤ) → pos d *ℤ z ≡ pos n *ℤ w → d * natural z ≡ n * natural w
+share-above n d z w e = sym (natural-times d z) ∙ ap natural e ∙ natural-times n w
+
+pub share-below : (n d : ℕ) (z w : ℤ) → pos d *ℤ z ≡ pos n *ℤ w → d * natural (negℤ z) ≡ n * natural (negℤ w)
+share-below n d z w e = share-above n d (negℤ z) (negℤ w) (times-neg d z ∙ ap negℤ e ∙ sym (times-neg n w))
+
+pub lt-le : (a b : ℤ) → ltZ a b ≡ not (leZ b a)
+lt-le (pos a) (pos b) = lt-not-le a b
+lt-le (pos a) (negsuc b) = refl
+lt-le (negsuc a) (pos b) = refl
+lt-le (negsuc a) (negsuc b) = lt-not-le b a
 
 module _ (k : ℕ) (x y : ℤ) (hx : Low k x) (hy : Low k y) where
   lt-told : ltZ x y ≡ ltb (shift k x) (shift k y)
@@ -70,32 +82,21 @@ module _ (k : ℕ) (x y : ℤ) (hx : Low k x) (hy : Low k y) where
       ∙ ap (λ (z : ℤ). z -ℤ pos k) (shift-is k x hx ∙ ap pos e ∙ sym (shift-is k y hy))
       ∙ +ℤ-negℤ-cancel y (pos k)
 
--- what is n/d of a difference has n/d of its part above 0 and of that below
-module _ (k n d : ℕ) (x y x′ y′ : ℤ) (hx : Low k x) (hy : Low k y) (hx′ : Low k x′) (hy′ : Low k y′) (e : pos d *ℤ (x -ℤ y) ≡ pos n *ℤ (x′ -ℤ y′)) where
-  pub share-above : d * (shift k x - shift k y) ≡ n * (shift k x′ - shift k y′)
-  share-above =
-      ap (λ (t : ℕ). d * t) (sym (above-shift k x y hx hy))
-      ∙ sym (natural-times d (x -ℤ y))
-      ∙ ap natural e
-      ∙ natural-times n (x′ -ℤ y′)
-      ∙ ap (λ (t : ℕ). n * t) (above-shift k x′ y′ hx′ hy′)
-
-  pub share-below : d * (shift k y - shift k x) ≡ n * (shift k y′ - shift k x′)
-  share-below =
-      ap (λ (t : ℕ). d * t) (sym (ap natural (neg-diff x y) ∙ above-shift k y x hy hx))
-      ∙ sym (natural-times-neg d (x -ℤ y))
-      ∙ ap (λ (z : ℤ). natural (negℤ z)) e
-      ∙ natural-times-neg n (x′ -ℤ y′)
-      ∙ ap (λ (t : ℕ). n * t) (ap natural (neg-diff x′ y′) ∙ above-shift k y′ x′ hy′ hx′)
-
 -- three whole numbers, told from a lower bound of all up
 pub level : (x y z : ℤ) {A : Type 0} → ((k : ℕ) → Low k x → Low k y → Low k z → A) → A
 level x y z f =
     let k : ℕ = natAbs x + natAbs y + natAbs z in
     f k (low-abs k x (omega arith)) (low-abs k y (omega arith)) (low-abs k z (omega arith))
 
+-- the order is the sign of the difference
+pub le-diff : (x y : ℤ) → leZ x y ≡ leb (natural (x -ℤ y)) 0
+le-diff x y = level x y y (λ k hx hy hy′. rw (shift-order k x y hx hy, above-shift k x y hx hy) (leb-same (shift k x) (shift k y) (shift k x - shift k y) 0 (λ h. omega arith) (λ h. omega arith)))
+
 pub le-through : (x y z : ℤ) → leZ x y ≡ true → leZ y z ≡ true → leZ x z ≡ true
 le-through x y z h h′ = level x y z (λ k hx hy hz. shift-le k x z hx hz (omega (arith, le-shift k x y hx hy h, le-shift k y z hy hz h′)))
+
+pub not-le : (x y : ℤ) → leZ x y ≡ false → leZ y x ≡ true
+not-le x y h = level x y y (λ k hx hy hy′. shift-le k y x hy hx (omega (arith, leb-false (shift k x) (shift k y) (sym (shift-order k x y hx hy) ∙ h))))
 
 pub natural-rises : (x y z : ℤ) → leZ x y ≡ true → natural (x -ℤ z) ≤ natural (y -ℤ z)
 natural-rises x y z h = level x y z (λ k hx hy hz. omega (arith, above-shift k x z hx hz, above-shift k y z hy hz, le-shift k x y hx hy h))

@@ -1,24 +1,25 @@
 -- Demand 3, a ray turned round: in every box it has the same length, and enters where the ray leaves. Assumes nothing.
-use Prim.Native.Nat.{ℕ, zero, suc, _+_, _-_, _*_, _≤_, _<_, min, max}
-use mathlib.Core.Path.{_≡_, refl, sym, ap, _∙_}
+use Prim.Native.Nat.{ℕ, _+_, _-_, _*_, _≤_, _<_, min, max}
+use mathlib.Core.Path.{_≡_, refl, sym, ap, ap₂, _∙_}
 use mathlib.Core.Bool.{Bool, true, false, _&&_, _||_, cond}
 use mathlib.Core.List.{List}
+use mathlib.Core.Logic.{inl, inr}
 use lib.ListN.{getD}
 use native.Mathlib.Nat.{sub-self, sub-zero}
 use native.Mathlib.Omega.{arith}
-use lib.IntN.{ℤ, pos, negsuc, negℤ, natAbs, _-ℤ_}
-use lib.Dec.{ltb}
-use lib.Signed.{leZ, ltZ}
+use lib.IntN.{ℤ, natAbs, _-ℤ_}
+use lib.Signed.{ltZ}
 use Rattle.axis.specs.Leg.{Leg, moving, factor, run, Slab, held}
 use Rattle.axis.proofs.Flag.{off-or-on}
-use Rattle.axis.proofs.Shift.{shift, Low}
+use Rattle.axis.proofs.Shift.{Low}
 use Rattle.ray.specs.declared.Ray.{Ray}
 use Rattle.ray.specs.Length.{Side, X, Y, Z, leg, dOf, rest, squaredOf, Volume, count, array, voxel, holds, start, stop, partOf, misses, spanOf, total, sumOf, crosses, crossedOf}
 use Rattle.ray.proofs.Total.{total-same}
 use Rattle.ray.proofs.Through.{max-falls, min-falls, three-as, either-as, sub-times}
 use Rattle.ray.proofs.Down.{down-falls, gap-down, leb-down, later, crossing-down}
-use Rattle.ray.proofs.Told.{neg-diff}
-use Rattle.ray.proofs.Way.{Way, up, down, still, Goes, moving-by, factor-by, run-by, passed, told, still-same}
+use Rattle.ray.proofs.Tests.{tested}
+use Rattle.ray.proofs.Told.{gap-shift, level}
+use Rattle.ray.proofs.Way.{Way, up, down, still, Going, moving-by, factor-by, run-by, passed, told, still-same, held-same}
 use Rattle.ray.proofs.Capped.{on, on-passed, d-side, enter, leave, begin, begin-sides, stop-sides, stop-cap, part, part-voxel, Met, met}
 
 -- the leg from q to p
@@ -34,39 +35,41 @@ or-comm false false = refl
 moving-back : (l : Leg) → moving (back l) ≡ moving l
 moving-back l = or-comm (ltZ (l .q) (l .p)) (ltZ (l .p) (l .q))
 
-module _ (k : ℕ) (l : Leg) (hp : Low k (l .p)) (hq : Low k (l .q)) where
-  factor-back′ : (w : Way) → Goes w (shift k (l .p)) (shift k (l .q)) → factor (back l) ≡ factor l
-  factor-back′ up g = factor-by k (back l) hq hp down g ∙ sym (factor-by k l hp hq up g)
-  factor-back′ down g = factor-by k (back l) hq hp up g ∙ sym (factor-by k l hp hq down g)
-  factor-back′ still g = factor-by k (back l) hq hp still (sym g) ∙ sym (factor-by k l hp hq still g)
+opposite : Way → Way
+opposite up = down
+opposite down = up
+opposite still = still
 
-  passed-back′ : (c : ℤ) → Low k c → moving l ≡ true → (w : Way) → Goes w (shift k (l .p)) (shift k (l .q)) → passed (back l) c ≡ factor l - passed l c
-  passed-back′ c hc m up g =
-      omega (arith, factor-by k (back l) hq hp down g, factor-by k l hp hq up g, run-by k (back l) hq hp c hc down g, run-by k l hp hq c hc up g)
-  passed-back′ c hc m down g =
-      omega (arith, factor-by k (back l) hq hp up g, factor-by k l hp hq down g, run-by k (back l) hq hp c hc up g, run-by k l hp hq c hc down g)
-  passed-back′ c hc m still g = off-or-on (moving l) m (moving-by k l hp hq still g)
+module _ {k : ℕ} {l : Leg} where
+  going-back : (w : Way) → Going k w l → Going k (opposite w) (back l)
+  unfolding opposite
+  going-back up t = record { low-p = t .low-q; low-q = t .low-p; goes = t .goes }
+  going-back down t = record { low-p = t .low-q; low-q = t .low-p; goes = t .goes }
+  going-back still t = record { low-p = t .low-q; low-q = t .low-p; goes = sym (t .goes) }
+
+  factor-back′ : (w : Way) → Going k w l → factor (back l) ≡ factor l
+  unfolding opposite
+  factor-back′ up t = factor-by down (going-back up t) ∙ sym (factor-by up t)
+  factor-back′ down t = factor-by up (going-back down t) ∙ sym (factor-by down t)
+  factor-back′ still t = factor-by still (going-back still t) ∙ sym (factor-by still t)
+
+  passed-back′ : (c : ℤ) → Low k c → moving l ≡ true → (w : Way) → Going k w l → passed (back l) c ≡ factor l - passed l c
+  unfolding opposite
+  passed-back′ c hc m up t = omega (arith, factor-back′ up t, factor-by up t, run-by c hc down (going-back up t), run-by c hc up t)
+  passed-back′ c hc m down t = omega (arith, factor-back′ down t, factor-by down t, run-by c hc up (going-back down t), run-by c hc down t)
+  passed-back′ c hc m still t = off-or-on (moving l) m (moving-by still t)
 
 factor-back : (l : Leg) → factor (back l) ≡ factor l
-factor-back l = told l (l .p) (l .p) (λ k hp hq hc hm. factor-back′ k l hp hq)
+factor-back l = told l (l .p) (l .p) (λ k hc hm. factor-back′)
 
 passed-back : (l : Leg) (c : ℤ) → moving l ≡ true → passed (back l) c ≡ factor l - passed l c
-passed-back l c m = told l c c (λ k hp hq hc hm. passed-back′ k l hp hq c hc m)
+passed-back l c m = told l c c (λ k hc hm. passed-back′ c hc m)
 
 held-back : (l : Leg) (t : Slab) → held (back l) t ≡ held l t
-held-back l t = rw (moving-back l) (go (moving l) refl)
-  where
-    go : (m : Bool) → moving l ≡ m → (m || (leZ (t .lo) (l .q) && ltZ (l .q) (t .hi))) ≡ (m || (leZ (t .lo) (l .p) && ltZ (l .p) (t .hi)))
-    go true e = refl
-    go false e = ap (λ (z : ℤ). leZ (t .lo) z && ltZ z (t .hi)) (sym (still-same l e))
-
-abs-neg : (z : ℤ) → natAbs (negℤ z) ≡ natAbs z
-abs-neg (pos zero) = refl
-abs-neg (pos (suc n)) = refl
-abs-neg (negsuc n) = refl
+held-back l = held-same l (back l) (moving-back l) (λ h. sym (still-same l h))
 
 abs-back : (x y : ℤ) → natAbs (y -ℤ x) ≡ natAbs (x -ℤ y)
-abs-back x y = ap natAbs (sym (neg-diff x y)) ∙ abs-neg (x -ℤ y)
+abs-back x y = level x y y (λ k hx hy hy′. omega (arith, gap-shift k y x hy hx, gap-shift k x y hx hy))
 
 -- ---- the ray from Q to P
 
@@ -165,25 +168,18 @@ module _ (v : Volume) (r : Ray) where
   -- a plane is crossed either way
   pub crosses-turned : (s : Side) (i : ℕ) → crosses v (turned r) s i ≡ crosses v r s i
   unfolding crosses on
-  crosses-turned s i = rw (moving-turned r s) (go (moving (leg r s)) refl)
+  crosses-turned s i = elim (tested (moving (leg r s))) [
+    | inl e ↦ ap₂ _&&_ (moving-turned r s)
+        (crossing-down (dOf r) (start r (array v)) (α r) (stop r (array v)) (start (turned r) (array v)) (α (turned r)) (stop (turned r) (array v))
+        (stop-cap r (array v))
+        (begin-down r (array v))
+        (ap (λ (d : ℕ). min d (α (turned r))) (sym (d-turned r)) ∙ on-turned r s (v s .at i) e)
+        (stop-turned r (array v)))
+    | inr e ↦ rw (moving-turned r s, e)
+  ]
     where
       α : Ray → ℕ
       α t = run (leg t s) (v s .at i) * rest t s
-
-      capped : moving (leg r s) ≡ true → min (dOf r) (α (turned r)) ≡ dOf r - min (dOf r) (α r)
-      capped e = ap (λ (d : ℕ). min d (α (turned r))) (sym (d-turned r)) ∙ on-turned r s (v s .at i) e
-
-      inside : Ray → Bool
-      inside t = ltb (start t (array v)) (α t) && ltb (α t) (stop t (array v))
-
-      go : (m : Bool) → moving (leg r s) ≡ m → (m && inside (turned r)) ≡ (m && inside r)
-      go true e =
-          crossing-down (dOf r) (start r (array v)) (α r) (stop r (array v)) (start (turned r) (array v)) (α (turned r)) (stop (turned r) (array v))
-          (stop-cap r (array v))
-          (begin-down r (array v))
-          (capped e)
-          (stop-turned r (array v))
-      go false e = refl
 
   pub crossed-turned : crossedOf v (turned r) ≡ crossedOf v r
   unfolding crossedOf

@@ -1,12 +1,15 @@
 -- One leg of a ray in numbers without a sign: it goes up, down or not at all. Assumes nothing.
-use Prim.Native.Nat.{ℕ, _+_, _-_, _<_, min}
+use Prim.Native.Nat.{ℕ, _+_, _-_, _≤_, _<_, min}
 use mathlib.Core.Path.{_≡_}
 use mathlib.Core.Bool.{Bool, true, false}
+use mathlib.Core.Logic.{inl, inr}
 use native.Mathlib.Omega.{arith}
 use native.Mathlib.Decide.{decLt}
 use lib.IntN.{ℤ, natAbs}
-use Rattle.axis.specs.Leg.{Leg, moving, factor, run}
+use lib.Signed.{ltZ}
+use Rattle.axis.specs.Leg.{Leg, moving, factor, run, Slab, held}
 use Rattle.axis.proofs.Flag.{off-or-on}
+use Rattle.ray.proofs.Tests.{tested}
 use Rattle.ray.proofs.Told.{low-abs, lt-yes, lt-no, gap-shift, same-shift}
 use Rattle.axis.proofs.Shift.{shift, Low, above-shift}
 
@@ -38,47 +41,62 @@ runBy up p c = c - p
 runBy down p c = p - c
 runBy still p c = p - c
 
-module _ (k : ℕ) (l : Leg) (hp : Low k (l .p)) (hq : Low k (l .q)) where
-  pub moving-by : (w : Way) → Goes w (shift k (l .p)) (shift k (l .q)) → moving l ≡ moves w
-  moving-by up g = rw (lt-yes k (l .p) (l .q) hp hq g)
-  moving-by down g = rw (lt-no k (l .p) (l .q) hp hq (omega arith), lt-yes k (l .q) (l .p) hq hp g)
-  moving-by still g = rw (lt-no k (l .p) (l .q) hp hq (omega arith), lt-no k (l .q) (l .p) hq hp (omega arith))
+-- A leg with its ends at -k or above: told from there up, it goes the way w.
+pub record Going (k : ℕ) (w : Way) (l : Leg) : Type 0 where
+  pub low-p : Low k (l .p)
+  pub low-q : Low k (l .q)
+  pub goes : Goes w (shift k (l .p)) (shift k (l .q))
 
-  pub factor-by : (w : Way) → Goes w (shift k (l .p)) (shift k (l .q)) → factor l ≡ factorBy w (shift k (l .p)) (shift k (l .q))
-  factor-by up g = rw (lt-yes k (l .p) (l .q) hp hq g) (omega (arith, gap-shift k (l .q) (l .p) hq hp))
-  factor-by down g =
-      rw (lt-no k (l .p) (l .q) hp hq (omega arith), lt-yes k (l .q) (l .p) hq hp g) (omega (arith, gap-shift k (l .q) (l .p) hq hp))
-  factor-by still g = rw (lt-no k (l .p) (l .q) hp hq (omega arith), lt-no k (l .q) (l .p) hq hp (omega arith))
+module _ {k : ℕ} {l : Leg} where
+  ahead : {w : Way} → Going k w l → shift k (l .p) < shift k (l .q) → ltZ (l .p) (l .q) ≡ true
+  ahead t = lt-yes k (l .p) (l .q) (t .low-p) (t .low-q)
 
-  pub run-by : (c : ℤ) → Low k c → (w : Way) → Goes w (shift k (l .p)) (shift k (l .q)) → run l c ≡ runBy w (shift k (l .p)) (shift k c)
-  run-by c hc up g = rw (lt-yes k (l .p) (l .q) hp hq g) (above-shift k c (l .p) hc hp)
-  run-by c hc down g = rw (lt-no k (l .p) (l .q) hp hq (omega arith)) (above-shift k (l .p) c hp hc)
-  run-by c hc still g = rw (lt-no k (l .p) (l .q) hp hq (omega arith)) (above-shift k (l .p) c hp hc)
+  not-ahead : {w : Way} → Going k w l → shift k (l .q) ≤ shift k (l .p) → ltZ (l .p) (l .q) ≡ false
+  not-ahead t = lt-no k (l .p) (l .q) (t .low-p) (t .low-q)
+
+  pub moving-by : (w : Way) → Going k w l → moving l ≡ moves w
+  moving-by up t = rw (ahead t (t .goes))
+  moving-by down t = rw (not-ahead t (omega arith), lt-yes k (l .q) (l .p) (t .low-q) (t .low-p) (t .goes))
+  moving-by still t = rw (not-ahead t (omega arith), lt-no k (l .q) (l .p) (t .low-q) (t .low-p) (omega arith))
+
+  pub factor-by : (w : Way) → Going k w l → factor l ≡ factorBy w (shift k (l .p)) (shift k (l .q))
+  factor-by up t = rw (moving-by up t) (omega (arith, gap-shift k (l .q) (l .p) (t .low-q) (t .low-p)))
+  factor-by down t = rw (moving-by down t) (omega (arith, gap-shift k (l .q) (l .p) (t .low-q) (t .low-p)))
+  factor-by still t = rw (moving-by still t)
+
+  pub run-by : (c : ℤ) → Low k c → (w : Way) → Going k w l → run l c ≡ runBy w (shift k (l .p)) (shift k c)
+  run-by c hc up t = rw (ahead t (t .goes)) (above-shift k c (l .p) hc (t .low-p))
+  run-by c hc down t = rw (not-ahead t (omega arith)) (above-shift k (l .p) c (t .low-p) hc)
+  run-by c hc still t = rw (not-ahead t (omega arith)) (above-shift k (l .p) c (t .low-p) hc)
 
 -- how far along its leg a ray has come at the place c, at most its whole leg
 abbrev pub passed : Leg → ℤ → ℕ
 passed l c = min (factor l) (run l c)
 
 -- whatever follows for a leg and two places told without a sign, follows
-pub told : (l : Leg) (c m : ℤ) {A : Type 0} → ((k : ℕ) → Low k (l .p) → Low k (l .q) → Low k c → Low k m → (w : Way) → Goes w (shift k (l .p)) (shift k (l .q)) → A) → A
+pub told : (l : Leg) (c m : ℤ) {A : Type 0} → ((k : ℕ) → Low k c → Low k m → (w : Way) → Going k w l → A) → A
 told l c m f =
     let k : ℕ = natAbs (l .p) + natAbs (l .q) + natAbs c + natAbs m in
     let w = way (shift k (l .p)) (shift k (l .q)) in
-    f k (low-abs k (l .p) (omega arith)) (low-abs k (l .q) (omega arith)) (low-abs k c (omega arith)) (low-abs k m (omega arith)) (w .0) (w .1)
+    f k (low-abs k c (omega arith)) (low-abs k m (omega arith)) (w .0) (record { low-p = low-abs k (l .p) (omega arith); low-q = low-abs k (l .q) (omega arith); goes = w .1 })
 
 module _ (l : Leg) where
-  still-same′ : moving l ≡ false → (k : ℕ) → Low k (l .p) → Low k (l .q) → (w : Way) → Goes w (shift k (l .p)) (shift k (l .q)) → l .p ≡ l .q
-  still-same′ h k hp hq up g = off-or-on (moving l) (moving-by k l hp hq up g) h
-  still-same′ h k hp hq down g = off-or-on (moving l) (moving-by k l hp hq down g) h
-  still-same′ h k hp hq still g = same-shift k (l .p) (l .q) hp hq g
+  still-same′ : moving l ≡ false → {k : ℕ} (w : Way) → Going k w l → l .p ≡ l .q
+  still-same′ h up t = off-or-on (moving l) (moving-by up t) h
+  still-same′ h down t = off-or-on (moving l) (moving-by down t) h
+  still-same′ h {k} still t = same-shift k (l .p) (l .q) (t .low-p) (t .low-q) (t .goes)
 
   pub still-same : moving l ≡ false → l .p ≡ l .q
-  still-same h = told l (l .p) (l .p) (λ k hp hq hc hm. still-same′ h k hp hq)
+  still-same h = told l (l .p) (l .p) (λ k hc hm. still-same′ h)
 
-  factor-pos′ : (k : ℕ) → Low k (l .p) → Low k (l .q) → (w : Way) → Goes w (shift k (l .p)) (shift k (l .q)) → 0 < factor l
-  factor-pos′ k hp hq up g = omega (arith, factor-by k l hp hq up g)
-  factor-pos′ k hp hq down g = omega (arith, factor-by k l hp hq down g)
-  factor-pos′ k hp hq still g = omega (arith, factor-by k l hp hq still g)
+  factor-pos′ : {k : ℕ} (w : Way) → Going k w l → 0 < factor l
+  factor-pos′ up t = omega (arith, factor-by up t)
+  factor-pos′ down t = omega (arith, factor-by down t)
+  factor-pos′ still t = omega (arith, factor-by still t)
 
   pub factor-pos : 0 < factor l
-  factor-pos = told l (l .p) (l .p) (λ k hp hq hc hm. factor-pos′ k hp hq)
+  factor-pos = told l (l .p) (l .p) (λ k hc hm. factor-pos′)
+
+-- a leg that moves as l does, from the same coordinate if it is still, is held as l is
+pub held-same : (l t : Leg) → moving t ≡ moving l → (moving l ≡ false → t .p ≡ l .p) → (s : Slab) → held t s ≡ held l s
+held-same l t e f s = elim (tested (moving l)) [ inl h ↦ rw (e, h) | inr h ↦ rw (e, f h) ]
