@@ -28,7 +28,7 @@ use Rattle.job.proofs.Taking.{sides, few-planes}
 entries-most : (g : Grid) (r : Ray) → first (gridRows tenths g) ≡ 0 → first (endRows tenths r) ≡ 0 → length (listOf (volume g) r) + 2 ≤ g .x .n + g .y .n + g .z .n
 entries-most g r grid ends =
     let s = sceneOf tenths g r in
-    let same = list-moved (pos 16384) (volume g) (volumeOf s) r (rayOf s) (moved tenths g r grid ends) in
+    let same = list-moved (moved tenths g r grid ends) in
     omega (arith, entries-few s (able tenths g r grid ends tenths-small), ap length same)
 
 pub record Traced (g : Grid) (r : Ray) (densities : List ℕ) (a : Trace) (voxels parts : List ℕ) : Type 0 where

@@ -10,7 +10,7 @@ use lib.IntN.{ℤ}
 use Rattle.axis.specs.Leg.{moving, factor, run, Slab, held, enters, leaves}
 use Rattle.ray.specs.declared.Ray.{Ray}
 use Rattle.ray.specs.Length.{Side, X, Y, Z, leg, dOf, rest, Volume, voxel, holds, start, stop, partOf}
-use Rattle.ray.proofs.Through.{Rises, Through, max-rises, min-rises, three-as, either-as, min-cap-rises, times-rises}
+use Rattle.ray.proofs.Through.{Rises, over, max-rises, min-rises, sides-as, either-as, min-cap-rises, times-rises}
 use Rattle.ray.proofs.Tests.{tested}
 use Rattle.ray.proofs.Way.{passed, factor-pos}
 
@@ -81,15 +81,11 @@ module _ (r : Ray) where
   unfolding leave on
   cap-leave s t = cap-out (moving (leg r s)) (dOf r) (rest r s) (run (leg r s) (t .lo)) (run (leg r s) (t .hi)) (still-rest s)
 
-  -- the three sides of a box, each capped at D
-  capped : (f : ℕ → ℕ → ℕ) → Through (min (dOf r)) f f → (x y z x′ y′ z′ : ℕ) → min (dOf r) x ≡ x′ → min (dOf r) y ≡ y′ → min (dOf r) z ≡ z′ → min (dOf r) (f x (f y z)) ≡ f x′ (f y′ z′)
-  capped f e x y z x′ y′ z′ = three-as (min (dOf r)) (λ n. n) f f f e (λ a b. refl) x′ y′ z′ x y z
+  pub begin-sides : (b : Side → Slab) → begin r b ≡ over max (λ s. enter r s (b s))
+  begin-sides b = sides-as (min (dOf r)) (λ n. n) max max max (max-rises (min (dOf r)) (min-cap-rises (dOf r))) (λ x y. refl) _ _ (λ s. cap-enter s (b s))
 
-  pub begin-sides : (b : Side → Slab) → begin r b ≡ max (enter r X (b X)) (max (enter r Y (b Y)) (enter r Z (b Z)))
-  begin-sides b = capped max (max-rises (min (dOf r)) (min-cap-rises (dOf r))) _ _ _ _ _ _ (cap-enter X (b X)) (cap-enter Y (b Y)) (cap-enter Z (b Z))
-
-  pub stop-sides : (b : Side → Slab) → stop r b ≡ min (leave r X (b X)) (min (leave r Y (b Y)) (leave r Z (b Z)))
-  stop-sides b = capped min (min-rises (min (dOf r)) (min-cap-rises (dOf r))) _ _ _ _ _ _ (cap-leave X (b X)) (cap-leave Y (b Y)) (cap-leave Z (b Z))
+  pub stop-sides : (b : Side → Slab) → stop r b ≡ over min (λ s. leave r s (b s))
+  stop-sides b = sides-as (min (dOf r)) (λ n. n) min min min (min-rises (min (dOf r)) (min-cap-rises (dOf r))) (λ x y. refl) _ _ (λ s. cap-leave s (b s))
 
   pub part-held : (b : Side → Slab) → holds r b ≡ true → part r b ≡ stop r b - begin r b
   unfolding part
@@ -124,14 +120,14 @@ module _
     (each : (s : Side) (c : ℤ) → moving (leg r s) ≡ true → g (on r′ s c) ≡ h (on r s c)) where
   enter-as : (s : Side) (t : Slab) → g (enter r′ s t) ≡ h (enter r s t)
   unfolding enter
-  enter-as s t = rw (moved s) (either-as g h min min min (min-rises g g-rises) (min-rises h h-rises) (moving (leg r s)) _ _ _ _ _ _ (each s (t .lo)) (each s (t .hi)) none)
+  enter-as s t = rw (moved s) (either-as g h min min min (min-rises g g-rises) (min-rises h h-rises) (moving (leg r s)) (each s (t .lo)) (each s (t .hi)) none)
 
   leave-as : (s : Side) (t : Slab) → g (leave r′ s t) ≡ h (leave r s t)
   unfolding leave
-  leave-as s t = rw (moved s) (either-as g h max max max (max-rises g g-rises) (max-rises h h-rises) (moving (leg r s)) _ _ _ _ _ _ (each s (t .lo)) (each s (t .hi)) all)
+  leave-as s t = rw (moved s) (either-as g h max max max (max-rises g g-rises) (max-rises h h-rises) (moving (leg r s)) (each s (t .lo)) (each s (t .hi)) all)
 
   pub begin-as : (b : Side → Slab) → g (begin r′ b) ≡ h (begin r b)
-  begin-as b = ap g (begin-sides r′ b) ∙ three-as g h max max max (max-rises g g-rises) (max-rises h h-rises) _ _ _ _ _ _ (enter-as X (b X)) (enter-as Y (b Y)) (enter-as Z (b Z)) ∙ sym (ap h (begin-sides r b))
+  begin-as b = rw (begin-sides r′ b, begin-sides r b) (sides-as g h max max max (max-rises g g-rises) (max-rises h h-rises) _ _ (λ s. enter-as s (b s)))
 
   pub stop-as : (b : Side → Slab) → g (stop r′ b) ≡ h (stop r b)
-  stop-as b = ap g (stop-sides r′ b) ∙ three-as g h min min min (min-rises g g-rises) (min-rises h h-rises) _ _ _ _ _ _ (leave-as X (b X)) (leave-as Y (b Y)) (leave-as Z (b Z)) ∙ sym (ap h (stop-sides r b))
+  stop-as b = rw (stop-sides r′ b, stop-sides r b) (sides-as g h min min min (min-rises g g-rises) (min-rises h h-rises) _ _ (λ s. leave-as s (b s)))

@@ -3,15 +3,17 @@
 use Prim.Native.Nat.{ℕ, zero, suc, _+_, _*_, _≤_, _<_}
 use mathlib.Core.Path.{_≡_, refl, ap, _∙_}
 use mathlib.Core.Bool.{Bool, true, false, _&&_, _||_, cond}
+use mathlib.Core.Logic.{inl, inr}
 use native.Mathlib.Omega.{arith}
 use native.Mathlib.Decide.{decLt}
 use lib.IntN.{pos}
-use lib.Dec.{ltb, eqb}
-use borrow.Author.Tests.{lt-ltb, ltb-true, eq-eqb, ne-eqb}
+use lib.Dec.{eqb}
+use borrow.Author.Tests.{eq-eqb, ne-eqb}
 use Rattle.axis.specs.Leg.{moving, run}
 use Rattle.axis.proofs.Flag.{and-left, and-right}
 use Rattle.ray.specs.declared.Ray.{Ray}
 use Rattle.ray.specs.Length.{Side, X, Y, Z, leg, dOf, rest, Volume, volume, array, start, stop, total, crosses}
+use Rattle.ray.proofs.Tests.{tested, between-means, means-between}
 use Rattle.ray.proofs.Bench.{grid, ray}
 
 -- α of a plane, times D
@@ -69,15 +71,12 @@ module _ (v : Volume) (r : Ray) (s : Side) (i : ℕ) where
   pub crosses-means : crosses v r s i ≡ true → (moving (leg r s) ≡ true) × (start r (array v) < alphaOf v r s i) × (alphaOf v r s i < stop r (array v))
   unfolding crosses
   crosses-means h =
-      let between = and-right (moving (leg r s)) _ h in (
-        and-left (moving (leg r s)) _ h,
-        ltb-true _ _ (and-left (ltb (start r (array v)) (alphaOf v r s i)) _ between),
-        ltb-true _ _ (and-right (ltb (start r (array v)) (alphaOf v r s i)) _ between),
-      )
+      let b = between-means (start r (array v)) (alphaOf v r s i) (stop r (array v)) (and-right (moving (leg r s)) _ h) in
+      (and-left (moving (leg r s)) _ h, b .0, b .1)
 
   pub means-crosses : moving (leg r s) ≡ true → start r (array v) < alphaOf v r s i → alphaOf v r s i < stop r (array v) → crosses v r s i ≡ true
   unfolding crosses
-  means-crosses m a b = rw (m, lt-ltb (start r (array v)) (alphaOf v r s i) a, lt-ltb (alphaOf v r s i) (stop r (array v)) b) refl
+  means-crosses m a b = rw m (means-between (start r (array v)) (alphaOf v r s i) (stop r (array v)) (a, b))
 
 module _ (v : Volume) (r : Ray) (x : ℕ) where
   pub crossed-yes : (s : Side) (i : ℕ) → i < v s .n + 1 → crosses v r s i ≡ true → alphaOf v r s i ≡ x → crossedAt v r x ≡ true
@@ -86,14 +85,11 @@ module _ (v : Volume) (r : Ray) (x : ℕ) where
 
   pub crossed-no : ((s : Side) (i : ℕ) → i < v s .n + 1 → crosses v r s i ≡ true → alphaOf v r s i ≡ x → ⊥) → crossedAt v r x ≡ false
   unfolding crossedAt
-  crossed-no none =
-      let on : (s : Side) → some (crossesAt v r x s) (v s .n + 1) ≡ false = λ s.
-      some-no (crossesAt v r x s) (v s .n + 1) (λ i h. neither (crosses v r s i) (alphaOf v r s i) refl (none s i h)) in
-      rw (on X, on Y, on Z) refl
+  crossed-no none = rw (on X, on Y, on Z) refl
     where
-      neither : (c : Bool) (a : ℕ) {c₀ : Bool} → c₀ ≡ c → (c₀ ≡ true → a ≡ x → ⊥) → (c && eqb a x) ≡ false
-      neither false a e h = refl
-      neither true a e h = ne-eqb a x (h e)
+      on : (s : Side) → some (crossesAt v r x s) (v s .n + 1) ≡ false
+      on s = some-no (crossesAt v r x s) (v s .n + 1)
+          (λ i h. elim (tested (crosses v r s i)) [ inl c ↦ rw (c, ne-eqb (alphaOf v r s i) x (none s i h c)) | inr c ↦ rw c ])
 
   pub crossed-since : x ≤ start r (array v) → crossedAt v r x ≡ false
   crossed-since h = crossed-no (λ s i k c e. omega (arith, crosses-means v r s i c .1))

@@ -3,11 +3,11 @@ pub mod Rows
 pub mod Accepted
 pub mod Once
 pub mod Bench
+pub mod Tests
 pub mod Total
 pub mod Rising
 pub mod Insert
 pub mod Listing
-pub mod Tests
 pub mod Told
 pub mod MovedAxis
 pub mod Moved

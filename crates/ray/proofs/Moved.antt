@@ -18,7 +18,7 @@ pub record Moved (k : ℤ) (v v′ : Volume) (r r′ : Ray) : Type 0 where
   pub starts : (s : Side) → leg r′ s .p ≡ leg r s .p +ℤ k
   pub ends : (s : Side) → leg r′ s .q ≡ leg r s .q +ℤ k
 
-module _ (k : ℤ) (v v′ : Volume) (r r′ : Ray) (moved : Moved k v v′ r r′) where
+module _ {k : ℤ} {v v′ : Volume} {r r′ : Ray} (moved : Moved k v v′ r r′) where
   leg-is : (s : Side) → leg r′ s ≡ legOn k (leg r s)
   leg-is s = λ t. record { p = moved .starts s t; q = moved .ends s t }
 
@@ -40,7 +40,7 @@ module _ (k : ℤ) (v v′ : Volume) (r r′ : Ray) (moved : Moved k v v′ r r�
       λ t. d X t * d X t + d Y t * d Y t + d Z t * d Z t
 
   -- any box that is moved along
-  module _ (b b′ : Side → Slab) (box : (s : Side) → b′ s ≡ slabOn k (b s)) where
+  module _ (b : Side → Slab) {b′ : Side → Slab} (box : (s : Side) → b′ s ≡ slabOn k (b s)) where
     held-moved : (s : Side) → held (leg r′ s) (b′ s) ≡ held (leg r s) (b s)
     held-moved s = (λ t. held (leg-is s t) (box s t)) ∙ held-on k (leg r s) (b s)
 
@@ -78,19 +78,17 @@ module _ (k : ℤ) (v v′ : Volume) (r r′ : Ray) (moved : Moved k v v′ r r�
 
   pub part-moved : (m : ℕ) → partOf v′ r′ m ≡ partOf v r m
   unfolding partOf
-  part-moved m = λ t. cond (holds-moved (voxel v m) (voxel v′ m) (voxel-moved m) t)
-      (stop-moved (voxel v m) (voxel v′ m) (voxel-moved m) t - start-moved (voxel v m) (voxel v′ m) (voxel-moved m) t)
-      0
+  part-moved m = let at = voxel-moved m in λ t. cond (holds-moved (voxel v m) at t) (stop-moved (voxel v m) at t - start-moved (voxel v m) at t) 0
 
   from : start r′ (array v′) ≡ start r (array v)
-  from = start-moved (array v) (array v′) array-moved
+  from = start-moved (array v) array-moved
 
   to : stop r′ (array v′) ≡ stop r (array v)
-  to = stop-moved (array v) (array v′) array-moved
+  to = stop-moved (array v) array-moved
 
   pub misses-moved : misses v′ r′ ≡ misses v r
   unfolding misses
-  misses-moved = λ t. leb (to t) (from t) || not (holds-moved (array v) (array v′) array-moved t)
+  misses-moved = λ t. leb (to t) (from t) || not (holds-moved (array v) array-moved t)
 
   pub span-moved : spanOf v′ r′ ≡ spanOf v r
   unfolding spanOf
@@ -99,9 +97,7 @@ module _ (k : ℤ) (v v′ : Volume) (r r′ : Ray) (moved : Moved k v v′ r r�
   list-to-moved : (n : ℕ) → listTo v′ r′ n ≡ listTo v r n
   unfolding listTo
   list-to-moved zero = refl
-  list-to-moved (suc n) = λ t. cond (ltb 0 (part-moved n t))
-      (insert (λ m. start-moved (voxel v m) (voxel v′ m) (voxel-moved m) t) n (list-to-moved n t))
-      (list-to-moved n t)
+  list-to-moved (suc n) = λ t. cond (ltb 0 (part-moved n t)) (insert (λ m. start-moved (voxel v m) (voxel-moved m) t) n (list-to-moved n t)) (list-to-moved n t)
 
   pub list-moved : listOf v′ r′ ≡ listOf v r
   unfolding listOf

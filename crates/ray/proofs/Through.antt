@@ -5,6 +5,7 @@ use mathlib.Core.Bool.{Bool, true, false, cond}
 use native.Mathlib.Nat.{min-comm, max-comm, min-eq-left, min-eq-right, max-eq-left, max-eq-right, mul-le-mul-right, mul-sub, mul-comm}
 use native.Mathlib.Omega.{arith}
 use native.Mathlib.Decide.{decLe}
+use Rattle.ray.specs.Length.{Side, X, Y, Z}
 
 abbrev pub Rises : (ℕ → ℕ) → Type 0
 Rises h = (x y : ℕ) → x ≤ y → h x ≤ h y
@@ -16,17 +17,21 @@ Falls h = (x y : ℕ) → x ≤ y → h y ≤ h x
 abbrev pub Through : (ℕ → ℕ) → (f g : ℕ → ℕ → ℕ) → Type 0
 Through h f g = (x y : ℕ) → f (h x) (h y) ≡ h (g x y)
 
+-- f of the numbers of the three sides
+abbrev pub over : (ℕ → ℕ → ℕ) → (Side → ℕ) → ℕ
+over f e = f (e X) (f (e Y) (e Z))
+
 -- two ways to the same numbers: f of places through h, and f′ of other places through g
 module _ (g h : ℕ → ℕ) (k f f′ : ℕ → ℕ → ℕ) (through-g : Through g k f′) (through-h : Through h k f) where
-  pub two-as : (a b a′ b′ : ℕ) → g a′ ≡ h a → g b′ ≡ h b → g (f′ a′ b′) ≡ h (f a b)
-  two-as a b a′ b′ u v = sym (through-g a′ b′) ∙ ap₂ k u v ∙ through-h a b
+  two-as : {a b a′ b′ : ℕ} → g a′ ≡ h a → g b′ ≡ h b → g (f′ a′ b′) ≡ h (f a b)
+  two-as {a} {b} {a′} {b′} u v = sym (through-g a′ b′) ∙ ap₂ k u v ∙ through-h a b
 
-  pub three-as : (a b c a′ b′ c′ : ℕ) → g a′ ≡ h a → g b′ ≡ h b → g c′ ≡ h c → g (f′ a′ (f′ b′ c′)) ≡ h (f a (f b c))
-  three-as a b c a′ b′ c′ u v w = two-as a (f b c) a′ (f′ b′ c′) u (two-as b c b′ c′ v w)
+  pub sides-as : (e e′ : Side → ℕ) → ((s : Side) → g (e′ s) ≡ h (e s)) → g (over f′ e′) ≡ h (over f e)
+  sides-as e e′ u = two-as (u X) (two-as (u Y) (u Z))
 
-  pub either-as : (m : Bool) (a b o a′ b′ o′ : ℕ) → (m ≡ true → g a′ ≡ h a) → (m ≡ true → g b′ ≡ h b) → g o′ ≡ h o → g (cond m (f′ a′ b′) o′) ≡ h (cond m (f a b) o)
-  either-as true a b o a′ b′ o′ u v w = two-as a b a′ b′ (u refl) (v refl)
-  either-as false a b o a′ b′ o′ u v w = w
+  pub either-as : (m : Bool) {a b o a′ b′ o′ : ℕ} → (m ≡ true → g a′ ≡ h a) → (m ≡ true → g b′ ≡ h b) → g o′ ≡ h o → g (cond m (f′ a′ b′) o′) ≡ h (cond m (f a b) o)
+  either-as true u v w = two-as (u refl) (v refl)
+  either-as false u v w = w
 
 -- where neither f nor g asks for an order, one order of the two is enough
 in-order : (h : ℕ → ℕ) (f g : ℕ → ℕ → ℕ) → ((a b : ℕ) → f a b ≡ f b a) → ((a b : ℕ) → g a b ≡ g b a) → ((x y : ℕ) → x ≤ y → f (h x) (h y) ≡ h (g x y)) → Through h f g

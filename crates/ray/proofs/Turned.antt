@@ -15,8 +15,8 @@ use Rattle.axis.proofs.Shift.{Low}
 use Rattle.ray.specs.declared.Ray.{Ray}
 use Rattle.ray.specs.Length.{Side, X, Y, Z, leg, dOf, rest, squaredOf, Volume, count, array, voxel, holds, start, stop, partOf, misses, spanOf, total, sumOf, crosses, crossedOf}
 use Rattle.ray.proofs.Total.{total-same}
-use Rattle.ray.proofs.Through.{max-falls, min-falls, three-as, either-as, sub-times}
-use Rattle.ray.proofs.Down.{down-falls, gap-down, leb-down, later, crossing-down}
+use Rattle.ray.proofs.Through.{max-falls, min-falls, sides-as, either-as, sub-times}
+use Rattle.ray.proofs.Down.{down-falls, later, Flipped, gap-down, leb-down, crossing-down}
 use Rattle.ray.proofs.Tests.{tested}
 use Rattle.ray.proofs.Told.{gap-shift, level}
 use Rattle.ray.proofs.Way.{Way, up, down, still, Going, moving-by, factor-by, run-by, passed, told, still-same, held-same}
@@ -110,27 +110,30 @@ module _ (r : Ray) where
 
   enter-turned : (s : Side) (t : Slab) → enter (turned r) s t ≡ from-q (leave r s t)
   unfolding enter leave
-  enter-turned s t = rw (moving-turned s) (either-as (λ x. x) from-q min max min (λ a b. refl) (min-falls from-q (down-falls (dOf r))) (moving (leg r s)) _ _ _ _ _ _ (on-turned s (t .lo)) (on-turned s (t .hi)) (sym (sub-self (dOf r))))
+  enter-turned s t =
+      rw (moving-turned s)
+      (either-as (λ x. x) from-q min max min (λ a b. refl) (min-falls from-q (down-falls (dOf r))) (moving (leg r s)) (on-turned s (t .lo)) (on-turned s (t .hi)) (sym (sub-self (dOf r))))
 
   leave-turned : (s : Side) (t : Slab) → leave (turned r) s t ≡ from-q (enter r s t)
   unfolding enter leave
-  leave-turned s t = rw (moving-turned s) (either-as (λ x. x) from-q max min max (λ a b. refl) (max-falls from-q (down-falls (dOf r))) (moving (leg r s)) _ _ _ _ _ _ (on-turned s (t .lo)) (on-turned s (t .hi)) (d-turned ∙ sym (sub-zero (dOf r))))
+  leave-turned s t =
+      rw (moving-turned s)
+      (either-as (λ x. x) from-q max min max (λ a b. refl) (max-falls from-q (down-falls (dOf r))) (moving (leg r s)) (on-turned s (t .lo)) (on-turned s (t .hi)) (d-turned ∙ sym (sub-zero (dOf r))))
 
   -- the ray turned enters a box where the ray leaves it, told from the other end, and the other way round
   pub begin-turned : (b : Side → Slab) → begin (turned r) b ≡ dOf r - stop r b
-  begin-turned b = begin-sides (turned r) b ∙ three-as (λ x. x) from-q max min max (λ a b. refl) (max-falls from-q (down-falls (dOf r))) _ _ _ _ _ _ (enter-turned X (b X)) (enter-turned Y (b Y)) (enter-turned Z (b Z)) ∙ ap from-q (sym (stop-sides r b))
+  begin-turned b = rw (begin-sides (turned r) b, stop-sides r b) (sides-as (λ x. x) from-q max min max (λ a b. refl) (max-falls from-q (down-falls (dOf r))) _ _ (λ s. enter-turned s (b s)))
 
   pub stop-turned : (b : Side → Slab) → stop (turned r) b ≡ dOf r - begin r b
-  stop-turned b = stop-sides (turned r) b ∙ three-as (λ x. x) from-q min max min (λ a b. refl) (min-falls from-q (down-falls (dOf r))) _ _ _ _ _ _ (leave-turned X (b X)) (leave-turned Y (b Y)) (leave-turned Z (b Z)) ∙ ap from-q (sym (begin-sides r b))
+  stop-turned b = rw (stop-sides (turned r) b, begin-sides r b) (sides-as (λ x. x) from-q min max min (λ a b. refl) (min-falls from-q (down-falls (dOf r))) _ _ (λ s. leave-turned s (b s)))
 
-  -- the same, capped at the ray's own D
-  begin-down : (b : Side → Slab) → min (dOf r) (start (turned r) b) ≡ dOf r - stop r b
-  begin-down b = ap (λ (d : ℕ). min d (start (turned r) b)) (sym d-turned) ∙ begin-turned b
+  flipped : (b : Side → Slab) → Flipped (dOf r) (start r b) (stop r b) (start (turned r) b) (stop (turned r) b)
+  flipped b = record { cap = stop-cap r b; begins = ap (λ (d : ℕ). min d (start (turned r) b)) (sym d-turned) ∙ begin-turned b; stops = stop-turned b }
 
   -- the same length in every box
   pub part-turned : (b : Side → Slab) → part (turned r) b ≡ part r b
   unfolding part
-  part-turned b = rw (holds-turned b, gap-down (dOf r) (start r b) (stop r b) (start (turned r) b) (stop (turned r) b) (stop-cap r b) (begin-down b) (stop-turned b))
+  part-turned b = rw (holds-turned b, gap-down (flipped b))
 
   -- of two boxes that the ray meets one after the other, the ray turned meets the second first
   pub order-turned : (a b : Side → Slab) → 0 < part r a → 0 < part r b → stop r a ≤ start r b → start (turned r) b < start (turned r) a
@@ -150,13 +153,11 @@ module _ (r : Ray) where
 module _ (v : Volume) (r : Ray) where
   pub misses-turned : misses v (turned r) ≡ misses v r
   unfolding misses
-  misses-turned =
-      rw (holds-turned r (array v), leb-down (dOf r) (start r (array v)) (stop r (array v)) (start (turned r) (array v)) (stop (turned r) (array v)) (stop-cap r (array v)) (begin-down r (array v)) (stop-turned r (array v)))
+  misses-turned = rw (holds-turned r (array v), leb-down (flipped r (array v)))
 
   pub span-turned : spanOf v (turned r) ≡ spanOf v r
   unfolding spanOf
-  span-turned =
-      rw (misses-turned, gap-down (dOf r) (start r (array v)) (stop r (array v)) (start (turned r) (array v)) (stop (turned r) (array v)) (stop-cap r (array v)) (begin-down r (array v)) (stop-turned r (array v)))
+  span-turned = rw (misses-turned, gap-down (flipped r (array v)))
 
   pub voxel-turned : (m : ℕ) → partOf v (turned r) m ≡ partOf v r m
   voxel-turned m = part-voxel v (turned r) m ∙ part-turned r (voxel v m) ∙ sym (part-voxel v r m)
@@ -170,11 +171,7 @@ module _ (v : Volume) (r : Ray) where
   unfolding crosses on
   crosses-turned s i = elim (tested (moving (leg r s))) [
     | inl e ↦ ap₂ _&&_ (moving-turned r s)
-        (crossing-down (dOf r) (start r (array v)) (α r) (stop r (array v)) (start (turned r) (array v)) (α (turned r)) (stop (turned r) (array v))
-        (stop-cap r (array v))
-        (begin-down r (array v))
-        (ap (λ (d : ℕ). min d (α (turned r))) (sym (d-turned r)) ∙ on-turned r s (v s .at i) e)
-        (stop-turned r (array v)))
+        (crossing-down (flipped r (array v)) (α r) (α (turned r)) (ap (λ (d : ℕ). min d (α (turned r))) (sym (d-turned r)) ∙ on-turned r s (v s .at i) e))
     | inr e ↦ rw (moving-turned r s, e)
   ]
     where

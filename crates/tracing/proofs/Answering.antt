@@ -71,23 +71,23 @@ module _ (g : Grid) (r : Ray) (nd nv np : ℕ) (ok : Accepted g r nd nv np) (s :
   count-so = ok .densities-are ∙ ap (λ (x : Scene). count (volumeOf x)) (sym e)
 
   pub list-so : listOf (volumeOf s) (rayOf s) ≡ listOf (volume g) r
-  list-so = ap (λ (x : Scene). listOf (volumeOf x) (rayOf x)) e ∙ list-moved k (volume g) (volumeOf raised) r (rayOf raised) on
+  list-so = ap (λ (x : Scene). listOf (volumeOf x) (rayOf x)) e ∙ list-moved on
 
   parts-so : map (partOf (volumeOf s) (rayOf s)) (listOf (volumeOf s) (rayOf s)) ≡ map (partOf (volume g) r) (listOf (volume g) r)
   parts-so =
       ap (λ (x : Scene). map (partOf (volumeOf x) (rayOf x)) (listOf (volumeOf x) (rayOf x))) e
-      ∙ ap (map (partOf (volumeOf raised) (rayOf raised))) (list-moved k (volume g) (volumeOf raised) r (rayOf raised) on)
-      ∙ map-same _ _ (part-moved k (volume g) (volumeOf raised) r (rayOf raised) on) (listOf (volume g) r)
+      ∙ ap (map (partOf (volumeOf raised) (rayOf raised))) (list-moved on)
+      ∙ map-same _ _ (part-moved on) (listOf (volume g) r)
 
   moved-answer : (densities : List ℕ) → accepted (volumeOf raised) (rayOf raised) densities ≡ accepted (volume g) r densities
   moved-answer densities =
       rw (
-        list-moved k (volume g) (volumeOf raised) r (rayOf raised) on,
-        crossed-moved k (volume g) (volumeOf raised) r (rayOf raised) on,
-        span-moved k (volume g) (volumeOf raised) r (rayOf raised) on,
-        d-moved k (volume g) (volumeOf raised) r (rayOf raised) on,
-        squared-moved k (volume g) (volumeOf raised) r (rayOf raised) on,
-        sum-moved k (volume g) (volumeOf raised) r (rayOf raised) on densities,
+        list-moved on,
+        crossed-moved on,
+        span-moved on,
+        d-moved on,
+        squared-moved on,
+        sum-moved on densities,
       ) refl
 
   accepted-so : (densities : List ℕ) → accepted (volumeOf s) (rayOf s) densities ≡ accepted (volume g) r densities

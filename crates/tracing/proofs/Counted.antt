@@ -44,27 +44,27 @@ module _ (m : Limits) (small : Small m) (g : Grid) (r : Ray) (grid : first (grid
   on = moved m g r grid ends
 
   voxels-on : listOf (volumeOf scene) (rayOf scene) ≡ listOf (volume g) r
-  voxels-on = list-moved (pos (m .coord)) (volume g) (volumeOf scene) r (rayOf scene) on
+  voxels-on = list-moved on
 
   parts-on : map (partOf (volumeOf scene) (rayOf scene)) (listOf (volumeOf scene) (rayOf scene)) ≡ map (partOf (volume g) r) (listOf (volume g) r)
-  parts-on = λ t. map (λ w. part-moved (pos (m .coord)) (volume g) (volumeOf scene) r (rayOf scene) on w t) (voxels-on t)
+  parts-on = λ t. map (λ w. part-moved on w t) (voxels-on t)
 
   misses-on : (b : Bool) → misses (volume g) r ≡ b → misses (volumeOf scene) (rayOf scene) ≡ b
-  misses-on b h = misses-moved (pos (m .coord)) (volume g) (volumeOf scene) r (rayOf scene) on ∙ h
+  misses-on b h = misses-moved on ∙ h
 
   crossed-on : crossedOf (volumeOf scene) (rayOf scene) ≡ crossedOf (volume g) r
-  crossed-on = crossed-moved (pos (m .coord)) (volume g) (volumeOf scene) r (rayOf scene) on
+  crossed-on = crossed-moved on
 
   -- RULES 4: all parts together make the span
   pub parts-span : sumList (map (partOf (volume g) r) (listOf (volume g) r)) ≡ spanOf (volume g) r
-  parts-span = ap sumList (sym parts-on) ∙ Walked.parts-span scene can ∙ span-moved (pos (m .coord)) (volume g) (volumeOf scene) r (rayOf scene) on
+  parts-span = ap sumList (sym parts-on) ∙ Walked.parts-span scene can ∙ span-moved on
 
   -- RULES 4: entries by the different α of the planes crossed
   pub entries-alphas : misses (volume g) r ≡ false → length (listOf (volume g) r) ≡ 1 + differentOf (volume g) r
   entries-alphas hit =
       ap length (sym voxels-on)
       ∙ Walked.entries-alphas scene can (misses-on false hit)
-      ∙ ap (λ (n : ℕ). 1 + n) (different-moved (pos (m .coord)) (volume g) (volumeOf scene) r (rayOf scene) on)
+      ∙ ap (λ (n : ℕ). 1 + n) (different-moved on)
 
   -- each of those α is that of a plane crossed, some of several
   pub entries-crossed : length (listOf (volume g) r) ≤ crossedOf (volume g) r + 1
@@ -86,7 +86,7 @@ module _ (m : Limits) (small : Small m) (g : Grid) (r : Ray) (grid : first (grid
     crossed = rw h refl;
     span = rw h refl;
     sum = λ densities.
-        sym (sum-moved (pos (m .coord)) (volume g) (volumeOf scene) r (rayOf scene) on densities) ∙ Walked.missed-sum scene can densities (misses-on true h);
+        sym (sum-moved on densities) ∙ Walked.missed-sum scene can densities (misses-on true h);
   }
 
 -- a stretch of the ray is at most the ray
@@ -107,7 +107,7 @@ module _ (g : Grid) (r : Ray) (grid : first (gridRows tenths g) ≡ 0) (ends : f
   d-small = omega (
     arith,
     d-tenths g r ends,
-    d-moved (pos (tenths .coord)) (volume g) (volumeOf (sceneOf tenths g r)) r (rayOf (sceneOf tenths g r)) (on tenths tenths-small g r grid ends),
+    d-moved (on tenths tenths-small g r grid ends),
   )
 
   -- RULES 3: the sum stays below 2^61, densities being at most 65535
