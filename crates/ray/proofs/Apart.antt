@@ -1,8 +1,8 @@
 -- Voxels that a ray meets follow one another: it leaves the one before it enters the other, or as it does. Of a volume it is only
 -- used that its planes do not fall. Assumes nothing.
-use Prim.Native.Nat.{ℕ, _+_, _*_, _≤_, _<_, min, max}
-use mathlib.Core.Path.{_≡_, refl, sym, ap, subst}
-use mathlib.Core.Bool.{Bool, true, false, _&&_, _||_, cond}
+use Prim.Native.Nat.{ℕ, _+_, _*_, _≤_, _<_, min}
+use mathlib.Core.Path.{_≡_, sym, ap, subst}
+use mathlib.Core.Bool.{true, false, _&&_}
 use mathlib.Core.Logic.{_⊎_, inl, inr, ⊎-elim}
 use native.Mathlib.Nat.{min-le-left, min-le-right, le-max-left, le-max-right, le-trans, le-of-lt, lt-of-lt-of-le, lt-irrefl}
 use native.Mathlib.Omega.{arith}
@@ -14,6 +14,7 @@ use Rattle.axis.proofs.Flag.{and-left, and-right}
 use Rattle.ray.specs.declared.Ray.{Ray}
 use Rattle.ray.specs.Length.{Side, X, Y, Z, leg, dOf, rest, Volume, count, index, voxel, holds, start, stop, partOf}
 use Rattle.ray.proofs.Through.{min-cap-rises, times-rises}
+use Rattle.ray.proofs.Tests.{tested}
 use Rattle.ray.proofs.Told.{le-shift, lt-shift, level, natural-rises, natural-falls}
 use Rattle.ray.proofs.Planes.{Rise, rise-to}
 use Rattle.ray.proofs.Listing.{Apart, starts}
@@ -46,16 +47,13 @@ module _ (r : Ray) (s : Side) where
 
     apart-side : held (leg r s) t ≡ true → held (leg r s) t′ ≡ true → (leave r s t ≤ enter r s t′) ⊎ (leave r s t′ ≤ enter r s t)
     unfolding enter leave
-    apart-side = go (moving (leg r s)) (ltZ (leg r s .p) (leg r s .q)) refl
-      where
-        go : (m u : Bool) → ltZ (leg r s .p) (leg r s .q) ≡ u
-            → (m || (leZ (t .lo) (leg r s .p) && ltZ (leg r s .p) (t .hi))) ≡ true
-            → (m || (leZ (t′ .lo) (leg r s .p) && ltZ (leg r s .p) (t′ .hi))) ≡ true
-            → (cond m (max (on r s (t .lo)) (on r s (t .hi))) (dOf r) ≤ cond m (min (on r s (t′ .lo)) (on r s (t′ .hi))) 0)
-            ⊎ (cond m (max (on r s (t′ .lo)) (on r s (t′ .hi))) (dOf r) ≤ cond m (min (on r s (t .lo)) (on r s (t .hi))) 0)
-        go true true e a b = inl (omega (arith, on-rises (t .lo) (t .hi) e h, on-rises (t .hi) (t′ .lo) e gap, on-rises (t′ .lo) (t′ .hi) e h′))
-        go true false e a b = inr (omega (arith, on-falls (t .lo) (t .hi) e h, on-falls (t .hi) (t′ .lo) e gap, on-falls (t′ .lo) (t′ .hi) e h′))
-        go false u e a b = absurd (not-both (leg r s .p) a b)
+    apart-side a b = elim (tested (moving (leg r s))) [
+      | inr m ↦ absurd (not-both (leg r s .p) (rw m at a) (rw m at b))
+      | inl m ↦ elim (tested (ltZ (leg r s .p) (leg r s .q))) [
+        | inl u ↦ rw m (inl (omega (arith, on-rises (t .lo) (t .hi) u h, on-rises (t .hi) (t′ .lo) u gap, on-rises (t′ .lo) (t′ .hi) u h′)))
+        | inr u ↦ rw m (inr (omega (arith, on-falls (t .lo) (t .hi) u h, on-falls (t .hi) (t′ .lo) u gap, on-falls (t′ .lo) (t′ .hi) u h′)))
+      ]
+    ]
 
 -- ---- boxes and voxels
 

@@ -108,26 +108,26 @@ module _ (r : Ray) where
     | inr e ↦ let none : 0 < 0 = rw e at h in absurd (omega arith)
   ]
 
--- a ray r′ whose places, through g, are those of r through h
-module _
-    (r r′ : Ray)
-    (moved : (s : Side) → moving (leg r′ s) ≡ moving (leg r s))
-    (g h : ℕ → ℕ)
-    (g-rises : Rises g)
-    (h-rises : Rises h)
-    (none : g 0 ≡ h 0)
-    (all : g (dOf r′) ≡ h (dOf r))
-    (each : (s : Side) (c : ℤ) → moving (leg r s) ≡ true → g (on r′ s c) ≡ h (on r s c)) where
+-- the places of a ray r′, through g, are those of r through h
+pub record Alike (g h : ℕ → ℕ) (r r′ : Ray) : Type 0 where
+  pub moves : (s : Side) → moving (leg r′ s) ≡ moving (leg r s)
+  pub g-rises : Rises g
+  pub h-rises : Rises h
+  pub none : g 0 ≡ h 0
+  pub all : g (dOf r′) ≡ h (dOf r)
+  pub each : (s : Side) (c : ℤ) → moving (leg r s) ≡ true → g (on r′ s c) ≡ h (on r s c)
+
+module _ {g h : ℕ → ℕ} {r r′ : Ray} (a : Alike g h r r′) where
   enter-as : (s : Side) (t : Slab) → g (enter r′ s t) ≡ h (enter r s t)
   unfolding enter
-  enter-as s t = rw (moved s) (either-as g h min min min (min-rises g g-rises) (min-rises h h-rises) (moving (leg r s)) (each s (t .lo)) (each s (t .hi)) none)
+  enter-as s t = rw (a .moves s) (either-as g h min min min (min-rises g (a .g-rises)) (min-rises h (a .h-rises)) (moving (leg r s)) (a .each s (t .lo)) (a .each s (t .hi)) (a .none))
 
   leave-as : (s : Side) (t : Slab) → g (leave r′ s t) ≡ h (leave r s t)
   unfolding leave
-  leave-as s t = rw (moved s) (either-as g h max max max (max-rises g g-rises) (max-rises h h-rises) (moving (leg r s)) (each s (t .lo)) (each s (t .hi)) all)
+  leave-as s t = rw (a .moves s) (either-as g h max max max (max-rises g (a .g-rises)) (max-rises h (a .h-rises)) (moving (leg r s)) (a .each s (t .lo)) (a .each s (t .hi)) (a .all))
 
   pub begin-as : (b : Side → Slab) → g (begin r′ b) ≡ h (begin r b)
-  begin-as b = rw (begin-sides r′ b, begin-sides r b) (sides-as g h max max max (max-rises g g-rises) (max-rises h h-rises) _ _ (λ s. enter-as s (b s)))
+  begin-as b = rw (begin-sides r′ b, begin-sides r b) (sides-as g h max max max (max-rises g (a .g-rises)) (max-rises h (a .h-rises)) _ _ (λ s. enter-as s (b s)))
 
   pub stop-as : (b : Side → Slab) → g (stop r′ b) ≡ h (stop r b)
-  stop-as b = rw (stop-sides r′ b, stop-sides r b) (sides-as g h min min min (min-rises g g-rises) (min-rises h h-rises) _ _ (λ s. leave-as s (b s)))
+  stop-as b = rw (stop-sides r′ b, stop-sides r b) (sides-as g h min min min (min-rises g (a .g-rises)) (min-rises h (a .h-rises)) _ _ (λ s. leave-as s (b s)))

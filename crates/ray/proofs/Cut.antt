@@ -15,7 +15,7 @@ use Rattle.ray.specs.Length.{Side, leg, dOf, rest, Volume, count, voxel,
 use Rattle.ray.proofs.Total.{total-same, total-add, total-times}
 use Rattle.ray.proofs.Way.{factor-pos}
 use Rattle.ray.proofs.Capped.{part, part-voxel, d-side, d-pos}
-use Rattle.ray.proofs.CutBox.{Between, near, far, moving-near, moving-far, sides, near-piece, far-piece, size-side, parts}
+use Rattle.ray.proofs.CutBox.{Between, near, far, sides, near-piece, far-piece, size-side, parts}
 
 -- the difference of a ray's end coordinates, its length on that axis
 abbrev pub difference : Ray → Side → ℕ
@@ -64,21 +64,21 @@ linear k a b f g h w e n =
     ∙ total-add (λ m. a * (g m * w m)) (λ m. b * (h m * w m)) n
     ∙ ap₂ _+_ (total-times (λ m. g m * w m) a n) (total-times (λ m. h m * w m) b n)
 
-module _ (r : Ray) (m : End) (between : Between r m) where
+module _ {r : Ray} {m : End} (between : Between r m) where
   module _ (s : Side) (moves : moving (leg r s) ≡ true) where
     near-difference : factor (leg (near r m) s) ≡ difference (near r m) s
-    near-difference = moving-factor (near r m) s (moving-near r m between s ∙ moves)
+    near-difference = moving-factor (near r m) s (sides between s .near .moves ∙ moves)
 
     far-difference : factor (leg (far r m) s) ≡ difference (far r m) s
-    far-difference = moving-factor (far r m) s (moving-far r m between s ∙ moves)
+    far-difference = moving-factor (far r m) s (sides between s .far .moves ∙ moves)
 
     -- PM and MQ make up PQ
     pub differences : difference (near r m) s + difference (far r m) s ≡ difference r s
-    differences = rw (← near-difference, ← far-difference, ← moving-factor r s moves) (omega (arith, sides r m between s .near .length moves, sides r m between s .far .length moves))
+    differences = rw (← near-difference, ← far-difference, ← moving-factor r s moves) (omega (arith, sides between s .near .length moves, sides between s .far .length moves))
 
     -- α = n/d of the differences
     pub α-difference : between .d * difference (near r m) s ≡ between .n * difference r s
-    α-difference = rw (← near-difference, ← moving-factor r s moves) (sides r m between s .share moves)
+    α-difference = rw (← near-difference, ← moving-factor r s moves) (sides between s .share moves)
 
     -- the mean, with what x is multiplied by put together
     abbrev Spread : (Ray → ℕ) → Type 0
@@ -99,7 +99,7 @@ module _ (r : Ray) (m : End) (between : Between r m) where
     part-spread b =
         rw (← near-difference, ← far-difference, ← moving-factor r s moves, d-side r s)
         (weights (factor (leg r s)) (rest r s) (dOf (near r m)) (dOf (far r m)) (factor (leg (near r m) s)) (factor (leg (far r m) s)) (part r b) (part (near r m) b) (part (far r m) b)
-        (rw (size-side (near-piece r m between s moves) s moves, size-side (far-piece r m between s moves) s moves) at (parts r m between s moves b)))
+        (rw (size-side (near-piece between s moves) s moves, size-side (far-piece between s moves) s moves) at (parts between s moves b)))
 
     module _ (v : Volume) where
       voxel-spread : (w : ℕ) → Spread (λ t. partOf v t w)

@@ -14,7 +14,7 @@ use Rattle.ray.specs.Length.{Side, X, Y, Z, leg, dOf, rest, holds, start
 use Rattle.ray.proofs.Through.{Rises, min-cap-rises, times-rises, sub-times, min-rises}
 use Rattle.ray.proofs.Tests.{tested}
 use Rattle.ray.proofs.Way.{passed, factor-pos}
-use Rattle.ray.proofs.Capped.{on, on-passed, d-side, rest-pos, begin, part, part-held, part-not-held, Met, met, begin-as, stop-as}
+use Rattle.ray.proofs.Capped.{on-passed, d-side, rest-pos, begin, part, part-held, part-not-held, Met, met, Alike, begin-as, stop-as}
 use Rattle.ray.proofs.CutLeg.{CutAt, PieceOf, Pieces, pieces}
 
 abbrev pub coordinate : End → Side → ℤ
@@ -78,27 +78,21 @@ module _ {of : ℕ → ℕ} {r t : Ray} (piece : Piece of r t) where
     pub size-pos : 0 < of (dOf r)
     size-pos = rw size-side (mul-pos (factor-pos (leg t s)) (rest-pos r s))
 
-  on-piece : (s : Side) (c : ℤ) → moving (leg r s) ≡ true → on t s c * of (dOf r) ≡ of (on r s c) * dOf t
-  on-piece s c moves =
-      rw (on-passed t s c, on-passed r s c, size-side s moves, d-side t s, piece .scale s moves (passed (leg r s) c), piece .side s .passes moves c)
-      (swap (piece .one s (passed (leg r s) c)) (rest t s) (factor (leg t s)) (rest r s))
+  alike : Alike (λ x. x * of (dOf r)) (λ x. of x * dOf t) r t
+  alike = record {
+    moves = λ s. piece .side s .moves;
+    g-rises = times-rises (of (dOf r));
+    h-rises = λ x y l. times-rises (dOf t) (of x) (of y) (piece .rises x y l);
+    none = rw (piece .none, zero-mul (of (dOf r)), zero-mul (dOf t));
+    all = mul-comm (dOf t) (of (dOf r));
+    each = λ s c h. rw (on-passed t s c, on-passed r s c, size-side s h, d-side t s, piece .scale s h (passed (leg r s) c), piece .side s .passes h c)
+        (swap (piece .one s (passed (leg r s) c)) (rest t s) (factor (leg t s)) (rest r s));
+  }
 
   -- what it has of a box
   module _ (b : Side → Slab) where
-    rises-by : Rises (λ x. of x * dOf t)
-    rises-by x y l = times-rises (dOf t) (of x) (of y) (piece .rises x y l)
-
-    none-by : 0 * of (dOf r) ≡ of 0 * dOf t
-    none-by = rw (piece .none, zero-mul (of (dOf r)), zero-mul (dOf t))
-
-    begin-piece : begin t b * of (dOf r) ≡ of (begin r b) * dOf t
-    begin-piece = begin-as r t (λ s. piece .side s .moves) (λ x. x * of (dOf r)) (λ x. of x * dOf t) (times-rises (of (dOf r))) rises-by none-by (mul-comm (dOf t) (of (dOf r))) on-piece b
-
-    stop-piece : stop t b * of (dOf r) ≡ of (stop r b) * dOf t
-    stop-piece = stop-as r t (λ s. piece .side s .moves) (λ x. x * of (dOf r)) (λ x. of x * dOf t) (times-rises (of (dOf r))) rises-by none-by (mul-comm (dOf t) (of (dOf r))) on-piece b
-
     part-piece : holds r b ≡ true → part t b * of (dOf r) ≡ (of (stop r b) - of (begin r b)) * dOf t
-    part-piece h = rw (part-held t b (holds-piece b ∙ h)) (scaled (stop t b) (begin t b) (of (dOf r)) (of (stop r b)) (of (begin r b)) (dOf t) stop-piece begin-piece)
+    part-piece h = rw (part-held t b (holds-piece b ∙ h)) (scaled (stop t b) (begin t b) (of (dOf r)) (of (stop r b)) (of (begin r b)) (dOf t) (stop-as alike b) (begin-as alike b))
 
     part-none : holds r b ≡ false → part t b * of (dOf r) ≡ 0 * dOf t
     part-none h = rw (part-not-held t b (holds-piece b ∙ h), zero-mul (of (dOf r)), zero-mul (dOf t))
@@ -112,28 +106,22 @@ module _ {of : ℕ → ℕ} {r t : Ray} (piece : Piece of r t) where
     pub piece-met : (s : Side) → moving (leg r s) ≡ true → 0 < part t b → PieceMet
     piece-met s moves h =
         let n : Met t b = met t b h in
-        let l : of (begin r b) < of (stop r b) = scaled-order (begin t b) (stop t b) (of (dOf r)) (of (begin r b)) (of (stop r b)) (dOf t) (size-pos s moves) begin-piece stop-piece (rw (n .begins) (n .some)) in
+        let l : of (begin r b) < of (stop r b) = scaled-order (begin t b) (stop t b) (of (dOf r)) (of (begin r b)) (of (stop r b)) (dOf t) (size-pos s moves) (begin-as alike b) (stop-as alike b) (rw (n .begins) (n .some)) in
         let ahead : begin r b < stop r b = lower (piece .rises) (begin r b) (stop r b) l in
         let some : 0 < part r b = rw (part-held r b (sym (holds-piece b) ∙ n .held)) (sub-pos-iff-lt .1 ahead) in
         let w : Met r b = met r b some in
-        record { some = some; ahead = rw (w .begins) at l; at = rw (← w .begins, ← n .begins) begin-piece }
+        record { some = some; ahead = rw (w .begins) at l; at = rw (← w .begins, ← n .begins) (begin-as alike b) }
 
 -- ---- both
 
-module _ (r : Ray) (m : End) (between : Between r m) where
-  pub cut : (s : Side) → CutAt (between .n) (between .d) (leg r s) (coordinate m s)
-  cut s = record { some = between .some; less = between .less; at = between .at s }
+pub cut : (r : Ray) (m : End) (between : Between r m) (s : Side) → CutAt (between .n) (between .d) (leg r s) (coordinate m s)
+cut r m between s = record { some = between .some; less = between .less; at = between .at s }
 
+module _ {r : Ray} {m : End} (between : Between r m) where
   pub sides : (s : Side) → Pieces (between .n) (between .d) (leg r s) (leg (near r m) s) (leg (far r m) s)
-  sides X = pieces (cut X)
-  sides Y = pieces (cut Y)
-  sides Z = pieces (cut Z)
-
-  pub moving-near : (s : Side) → moving (leg (near r m) s) ≡ moving (leg r s)
-  moving-near s = sides s .near .moves
-
-  pub moving-far : (s : Side) → moving (leg (far r m) s) ≡ moving (leg r s)
-  moving-far s = sides s .far .moves
+  sides X = pieces (cut r m between X)
+  sides Y = pieces (cut r m between Y)
+  sides Z = pieces (cut r m between Z)
 
   -- the place of M on a moving side, in units of D; it is the same on each
   module _ (o : Side) (moves : moving (leg r o) ≡ true) where
@@ -177,3 +165,10 @@ module _ (r : Ray) (m : End) (between : Between r m) where
       | inl h ↦ weighed _ _ _ _ _ (dOf (near r m)) (dOf (far r m)) (part-held r b h ∙ split-at upTo (begin r b) (stop r b)) (part-piece near-piece b h) (part-piece far-piece b h)
       | inr h ↦ weighed _ 0 0 _ _ (dOf (near r m)) (dOf (far r m)) (part-not-held r b h) (part-none near-piece b h) (part-none far-piece b h)
     ]
+
+module _ (r : Ray) (m : End) (between : Between r m) where
+  pub moving-near : (s : Side) → moving (leg (near r m) s) ≡ moving (leg r s)
+  moving-near s = sides between s .near .moves
+
+  pub moving-far : (s : Side) → moving (leg (far r m) s) ≡ moving (leg r s)
+  moving-far s = sides between s .far .moves

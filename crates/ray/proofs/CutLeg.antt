@@ -86,21 +86,20 @@ module _ {n d : ℕ} {l : Leg} {m : ℤ} (cut : CutAt n d l m) where
     ordered′ up t = let i = goes up t in inl (shift-le k (l .p) m (t .low-p) hm (omega arith), shift-le k m (l .q) hm (t .low-q) (omega arith))
     ordered′ still t = let i = goes still t in inl (shift-le k (l .p) m (t .low-p) hm (omega arith), shift-le k m (l .q) hm (t .low-q) (omega arith))
 
-    module _ (moved : moving l ≡ true) where
-      factors′ : (w : Way) → Going k w l → factor (before l m) + factor (after l m) ≡ factor l
-      factors′ up t = let i = goes up t in omega (arith, factor-by up (first up t), factor-by up (last up t), factor-by up t)
-      factors′ down t = let i = goes down t in omega (arith, factor-by down (first down t), factor-by down (last down t), factor-by down t)
-      factors′ still t = off-or-on (moving l) moved (moving-by still t)
-
-      share′ : (w : Way) → Going k w l → d * factor (before l m) ≡ n * factor l
-      share′ up t = rw (factor-by up (first up t), factor-by up t) (above t)
-      share′ down t = rw (factor-by down (first down t), factor-by down t) (below t)
-      share′ still t = off-or-on (moving l) moved (moving-by still t)
-
-      run-after′ : (c : ℤ) → Low k c → (w : Way) → Going k w l → run (after l m) c ≡ run l c - factor (before l m)
-      run-after′ c hc up t = let i = goes up t in omega (arith, factor-by up (first up t), run-by c hc up (last up t), run-by c hc up t)
-      run-after′ c hc down t = let i = goes down t in omega (arith, factor-by down (first down t), run-by c hc down (last down t), run-by c hc down t)
-      run-after′ c hc still t = off-or-on (moving l) moved (moving-by still t)
+    -- what the pieces of a leg that moves have of its length
+    lengths : moving l ≡ true → (w : Way) → Going k w l
+        → (factor (before l m) + factor (after l m) ≡ factor l) × (d * factor (before l m) ≡ n * factor l) × ((c : ℤ) → Low k c → run (after l m) c ≡ run l c - factor (before l m))
+    lengths moved up t =
+        let i = goes up t in
+        let f = factor-by up (first up t) in
+        let e = factor-by up t in
+        (omega (arith, factor-by up (last up t)), rw (f, e) (above t), λ c hc. omega (arith, run-by c hc up (last up t), run-by c hc up t))
+    lengths moved down t =
+        let i = goes down t in
+        let f = factor-by down (first down t) in
+        let e = factor-by down t in
+        (omega (arith, factor-by down (last down t)), rw (f, e) (below t), λ c hc. omega (arith, run-by c hc down (last down t), run-by c hc down t))
+    lengths moved still t = off-or-on (moving l) moved (moving-by still t)
 
   pub ordered : ((leZ (l .p) m ≡ true) × (leZ m (l .q) ≡ true)) ⊎ ((leZ (l .q) m ≡ true) × (leZ m (l .p) ≡ true))
   ordered = told l m m (λ k hm hm′. ordered′ hm)
@@ -113,14 +112,14 @@ module _ {n d : ℕ} {l : Leg} {m : ℤ} (cut : CutAt n d l m) where
 
   module _ (moved : moving l ≡ true) where
     factors : factor (before l m) + factor (after l m) ≡ factor l
-    factors = told l m m (λ k hm hm′. factors′ hm moved)
+    factors = told l m m (λ k hm hm′ w t. lengths hm moved w t .0)
 
     module _ (c : ℤ) where
       run-before : run (before l m) c ≡ run l c
       run-before = told l c m (λ k hc hm w t. run-by c hc w (first hm w t) ∙ sym (run-by c hc w t))
 
       run-after : run (after l m) c ≡ run l c - factor (before l m)
-      run-after = told l c m (λ k hc hm. run-after′ hm moved c hc)
+      run-after = told l c m (λ k hc hm w t. lengths hm moved w t .2 c hc)
 
   pub pieces : Pieces n d l (before l m) (after l m)
   pieces = record {
@@ -136,5 +135,5 @@ module _ {n d : ℕ} {l : Leg} {m : ℤ} (cut : CutAt n d l m) where
       length = λ h. omega (arith, factors h);
       passes = λ h c. rw (run-after h c) (cap-rest (factor (before l m)) (factor (after l m)) (factor l) (run l c) (factors h));
     };
-    share = λ h. told l m m (λ k hm hm′. share′ hm h);
+    share = λ h. told l m m (λ k hm hm′ w t. lengths hm h w t .1);
   }

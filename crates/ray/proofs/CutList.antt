@@ -54,12 +54,12 @@ module _ (v : Volume) {of : ℕ → ℕ} {r t : Ray} (piece : Piece of r t) (o :
 
 -- ---- both
 
-module _ (v : Volume) (rise : Rise v) (r : Ray) (m : End) (between : Between r m) (o : Side) (moves : moving (leg r o) ≡ true) where
-  abbrev in-near : (w : ℕ) → List·Memᴰ w (listOf v (near r m)) → (w < count v) × PieceMet (near-piece r m between o moves) (voxel v w)
-  in-near = met-in v (near-piece r m between o moves) o moves
+module _ (v : Volume) (rise : Rise v) {r : Ray} {m : End} (between : Between r m) (o : Side) (moves : moving (leg r o) ≡ true) where
+  abbrev in-near : (w : ℕ) → List·Memᴰ w (listOf v (near r m)) → (w < count v) × PieceMet (near-piece between o moves) (voxel v w)
+  in-near = met-in v (near-piece between o moves) o moves
 
-  abbrev in-far : (w : ℕ) → List·Memᴰ w (listOf v (far r m)) → (w < count v) × PieceMet (far-piece r m between o moves) (voxel v w)
-  in-far = met-in v (far-piece r m between o moves) o moves
+  abbrev in-far : (w : ℕ) → List·Memᴰ w (listOf v (far r m)) → (w < count v) × PieceMet (far-piece between o moves) (voxel v w)
+  in-far = met-in v (far-piece between o moves) o moves
 
   below : Below (starts v r) (listOf v (near r m)) (listOf v (far r m))
   below u w mu mw h =
@@ -67,7 +67,7 @@ module _ (v : Volume) (rise : Rise v) (r : Ray) (m : End) (between : Between r m
       let (lw, fw) = in-far w mw in
       ⊎-elim
       (λ l. lt-of-lt-of-le (met r (voxel v u) (nu .some) .some) l)
-      (λ l. absurd (clash (starts v r u) (stop r (voxel v u)) (starts v r w) (stop r (voxel v w)) (upTo r m between o moves) (nu .ahead) (fw .ahead) l))
+      (λ l. absurd (clash (starts v r u) (stop r (voxel v u)) (starts v r w) (stop r (voxel v w)) (upTo between o moves) (nu .ahead) (fw .ahead) l))
       (voxel-apart v rise r u w lu lw (rw (part-voxel v r u) (nu .some)) (rw (part-voxel v r w) (fw .some)) h)
     where
       clash : (a a′ b b′ c : ℕ) → min c a < min c a′ → b - c < b′ - c → b′ ≤ a → ⊥
@@ -76,7 +76,7 @@ module _ (v : Volume) (rise : Rise v) (r : Ray) (m : End) (between : Between r m
   either : (w : ℕ) → 0 < partOf v r w → (0 < partOf v (near r m) w) ⊎ (0 < partOf v (far r m) w)
   either w h =
       rw (part-voxel v (near r m) w, part-voxel v (far r m) w)
-      (some-piece _ _ _ _ (dOf (far r m)) _ _ (dOf (near r m)) (rw (part-voxel v r w) at h) (mul-pos (d-pos (near r m)) (d-pos (far r m))) (parts r m between o moves (voxel v w)))
+      (some-piece _ _ _ _ (dOf (far r m)) _ _ (dOf (near r m)) (rw (part-voxel v r w) at h) (mul-pos (d-pos (near r m)) (d-pos (far r m))) (parts between o moves (voxel v w)))
 
   listed : Listed (starts v r) (partOf v r) (count v) (joined (listOf v (near r m)) (listOf v (far r m)))
   listed = record {
@@ -88,7 +88,7 @@ module _ (v : Volume) (rise : Rise v) (r : Ray) (m : End) (between : Between r m
         (λ k. joined-left (listOf v (far r m)) w (listOf v (near r m)) (list-whole v (near r m) w i k))
         (λ k. joined-right (listOf v (far r m)) w (listOf v (near r m)) (list-whole v (far r m) w i k))
         (either w h);
-    rising = joined-rising (starts v r) _ _ (piece-rising v (near-piece r m between o moves) o moves rise) (piece-rising v (far-piece r m between o moves) o moves rise) below;
+    rising = joined-rising (starts v r) _ _ (piece-rising v (near-piece between o moves) o moves rise) (piece-rising v (far-piece between o moves) o moves rise) below;
   }
 
   -- The voxels from P to Q are those from P to M followed by those from M to Q, the two at the seam becoming one where they are the
@@ -109,18 +109,18 @@ pub record Cuts (v : Volume) (r : Ray) (m : End) : Type 0 where
   pub far-absent : (w : ℕ) → w < count v → (List·Memᴰ w (listOf v (far r m)) → ⊥) → partOf v (far r m) w ≡ 0
   pub sum : (s : Side) → moving (leg r s) ≡ true → (densities : List ℕ) → Mean r m s (λ t. sumOf v t densities)
 
-pub cuts : (v : Volume) → Rise v → (r : Ray) (m : End) → Between r m → (o : Side) → moving (leg r o) ≡ true → Cuts v r m
-cuts v rise r m between o moves = record {
-  voxels = list-cut v rise r m between o moves;
-  differences = differences r m between;
-  quotient = same-quotient r m between;
-  quotient-far = same-quotient-far r m between;
-  part = λ s h. voxel-cut r m between s h v;
+pub cuts : (v : Volume) → Rise v → {r : Ray} {m : End} → Between r m → (o : Side) → moving (leg r o) ≡ true → Cuts v r m
+cuts v rise {r} {m} between o moves = record {
+  voxels = list-cut v rise between o moves;
+  differences = differences between;
+  quotient = same-quotient between;
+  quotient-far = same-quotient-far between;
+  part = λ s h. voxel-cut between s h v;
   near-absent = absent v (near r m);
   far-absent = absent v (far r m);
-  sum = λ s h. sum-cut r m between s h v;
+  sum = λ s h. sum-cut between s h v;
 }
 
 -- for every grid and every ray whose ends are accepted; so are then the ends of its pieces (`ends-near`, `ends-far`)
 pub grid-cuts : (lim : Limits) (g : Grid) (r : Ray) (m : End) → first (endRows lim r) ≡ 0 → Between r m → Cuts (volume g) r m
-grid-cuts lim g r m accepted between = let o = moves-on lim r accepted in cuts (volume g) (grid-rise g) r m between (o .0) (o .1)
+grid-cuts lim g r m accepted between = let o = moves-on lim r accepted in cuts (volume g) (grid-rise g) between (o .0) (o .1)

@@ -1,11 +1,11 @@
 -- Sums: `total` over the numbers below n, and a list's. Assumes nothing.
 use Prim.Native.Nat.{ℕ, zero, suc, _+_, _*_, _≤_, _<_}
-use mathlib.Core.Path.{_≡_, refl, sym, ap, _∙_}
+use mathlib.Core.Path.{_≡_, refl, sym, ap}
 use mathlib.Core.Bool.{cond}
 use mathlib.Core.List.{List, sum}
 use native.Mathlib.Omega.{arith}
 use native.Mathlib.Decide.{decLt}
-use native.Mathlib.Nat.{mul-add, mul-zero, zero-mul, suc-mul}
+use native.Mathlib.Nat.{mul-add, mul-zero}
 use lib.Dec.{eqb}
 use borrow.Author.Tests.{eq-eqb, ne-eqb}
 use Rattle.ray.specs.Length.{total}
@@ -26,14 +26,11 @@ module _ (f g : ℕ → ℕ) where
   total-add zero = refl
   total-add (suc n) = omega (arith, total-add n)
 
-pub total-const : (c n : ℕ) → total (λ m. c) n ≡ n * c
-unfolding total
-total-const c zero = sym (zero-mul c)
-total-const c (suc n) = omega (arith, total-const c n, suc-mul n c)
-
 module _ (f : ℕ → ℕ) where
   pub total-zero : (n : ℕ) → ((m : ℕ) → m < n → f m ≡ 0) → total f n ≡ 0
-  total-zero n h = total-same f (λ m. 0) n h ∙ total-const 0 n ∙ mul-zero n
+  unfolding total
+  total-zero zero h = refl
+  total-zero (suc n) h = omega (arith, total-zero n (λ m i. h m (omega arith)), h n (omega arith))
 
   pub total-times : (c n : ℕ) → total (λ m. c * f m) n ≡ c * total f n
   unfolding total

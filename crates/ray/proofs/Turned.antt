@@ -11,7 +11,7 @@ use lib.IntN.{ℤ, natAbs, _-ℤ_}
 use lib.Signed.{ltZ}
 use Rattle.axis.specs.Leg.{Leg, moving, factor, run, Slab, held}
 use Rattle.axis.proofs.Flag.{off-or-on}
-use Rattle.axis.proofs.Shift.{Low}
+use Rattle.axis.proofs.Shift.{shift, Low}
 use Rattle.ray.specs.declared.Ray.{Ray}
 use Rattle.ray.specs.Length.{Side, X, Y, Z, leg, dOf, rest, squaredOf, Volume, count, array, voxel, holds, start, stop, partOf, misses, spanOf, total, sumOf, crosses, crossedOf}
 use Rattle.ray.proofs.Total.{total-same}
@@ -19,7 +19,7 @@ use Rattle.ray.proofs.Through.{max-falls, min-falls, sides-as, either-a
 use Rattle.ray.proofs.Down.{down-falls, later, Flipped, gap-down, leb-down, crossing-down}
 use Rattle.ray.proofs.Tests.{tested}
 use Rattle.ray.proofs.Told.{gap-shift, level}
-use Rattle.ray.proofs.Way.{Way, up, down, still, Going, moving-by, factor-by, run-by, passed, told, still-same, held-same}
+use Rattle.ray.proofs.Way.{Way, up, down, still, Goes, Going, moving-by, factor-by, run-by, passed, told, still-same, held-same}
 use Rattle.ray.proofs.Capped.{on, on-passed, d-side, enter, leave, begin, begin-sides, stop-sides, stop-cap, part, part-voxel, Met, met}
 
 -- the leg from q to p
@@ -35,41 +35,26 @@ or-comm false false = refl
 moving-back : (l : Leg) → moving (back l) ≡ moving l
 moving-back l = or-comm (ltZ (l .q) (l .p)) (ltZ (l .p) (l .q))
 
-opposite : Way → Way
-opposite up = down
-opposite down = up
-opposite still = still
-
-module _ {k : ℕ} {l : Leg} where
-  going-back : (w : Way) → Going k w l → Going k (opposite w) (back l)
-  unfolding opposite
-  going-back up t = record { low-p = t .low-q; low-q = t .low-p; goes = t .goes }
-  going-back down t = record { low-p = t .low-q; low-q = t .low-p; goes = t .goes }
-  going-back still t = record { low-p = t .low-q; low-q = t .low-p; goes = sym (t .goes) }
-
-  factor-back′ : (w : Way) → Going k w l → factor (back l) ≡ factor l
-  unfolding opposite
-  factor-back′ up t = factor-by down (going-back up t) ∙ sym (factor-by up t)
-  factor-back′ down t = factor-by up (going-back down t) ∙ sym (factor-by down t)
-  factor-back′ still t = factor-by still (going-back still t) ∙ sym (factor-by still t)
-
-  passed-back′ : (c : ℤ) → Low k c → moving l ≡ true → (w : Way) → Going k w l → passed (back l) c ≡ factor l - passed l c
-  unfolding opposite
-  passed-back′ c hc m up t = omega (arith, factor-back′ up t, factor-by up t, run-by c hc down (going-back up t), run-by c hc up t)
-  passed-back′ c hc m down t = omega (arith, factor-back′ down t, factor-by down t, run-by c hc up (going-back down t), run-by c hc down t)
-  passed-back′ c hc m still t = off-or-on (moving l) m (moving-by still t)
+abs-back : (x y : ℤ) → natAbs (y -ℤ x) ≡ natAbs (x -ℤ y)
+abs-back x y = level x y y (λ k hx hy hy′. omega (arith, gap-shift k y x hy hx, gap-shift k x y hx hy))
 
 factor-back : (l : Leg) → factor (back l) ≡ factor l
-factor-back l = told l (l .p) (l .p) (λ k hc hm. factor-back′)
+factor-back l = rw (moving-back l, abs-back (l .q) (l .p))
+
+module _ {k : ℕ} {l : Leg} where
+  going-back : {w : Way} → Going k w l → (w′ : Way) → Goes w′ (shift k (l .q)) (shift k (l .p)) → Going k w′ (back l)
+  going-back t w′ g = record { low-p = t .low-q; low-q = t .low-p; goes = g }
+
+  passed-back′ : (c : ℤ) → Low k c → moving l ≡ true → (w : Way) → Going k w l → passed (back l) c ≡ factor l - passed l c
+  passed-back′ c hc m up t = omega (arith, factor-back l, factor-by up t, run-by c hc down (going-back t down (t .goes)), run-by c hc up t)
+  passed-back′ c hc m down t = omega (arith, factor-back l, factor-by down t, run-by c hc up (going-back t up (t .goes)), run-by c hc down t)
+  passed-back′ c hc m still t = off-or-on (moving l) m (moving-by still t)
 
 passed-back : (l : Leg) (c : ℤ) → moving l ≡ true → passed (back l) c ≡ factor l - passed l c
 passed-back l c m = told l c c (λ k hc hm. passed-back′ c hc m)
 
 held-back : (l : Leg) (t : Slab) → held (back l) t ≡ held l t
 held-back l = held-same l (back l) (moving-back l) (λ h. sym (still-same l h))
-
-abs-back : (x y : ℤ) → natAbs (y -ℤ x) ≡ natAbs (x -ℤ y)
-abs-back x y = level x y y (λ k hx hy hy′. omega (arith, gap-shift k y x hy hx, gap-shift k x y hx hy))
 
 -- ---- the ray from Q to P
 

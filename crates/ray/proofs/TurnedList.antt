@@ -39,13 +39,6 @@ module _ (v : Volume) (rise : Rise v) (r : Ray) where
   pub list-turned : listOf v (turned r) ≡ reverse (listOf v r)
   list-turned = sym (list-is v (turned r) (starts-apart v rise (turned r)) (reverse (listOf v r)) backwards)
 
-  -- and so do the parts, over the same D
-  pub parts-turned : map (partOf v (turned r)) (listOf v (turned r)) ≡ reverse (map (partOf v r) (listOf v r))
-  parts-turned =
-      ap (map (partOf v (turned r))) list-turned
-      ∙ map-same (partOf v (turned r)) (partOf v r) (voxel-turned v r) (reverse (listOf v r))
-      ∙ map-reverse (partOf v r) (listOf v r)
-
 -- All of it: the list backwards with equal parts over the same D, equal span, planes crossed, sum and squared length.
 pub record Turns (v : Volume) (r : Ray) : Type 0 where
   pub voxels : listOf v (turned r) ≡ reverse (listOf v r)
@@ -57,15 +50,20 @@ pub record Turns (v : Volume) (r : Ray) : Type 0 where
   pub squared : squaredOf (turned r) ≡ squaredOf r
 
 pub turns : (v : Volume) → Rise v → (r : Ray) → Turns v r
-turns v rise r = record {
-  voxels = list-turned v rise r;
-  parts = parts-turned v rise r;
-  d = d-turned r;
-  span = span-turned v r;
-  crossed = crossed-turned v r;
-  sum = sum-turned v r;
-  squared = squared-turned r;
-}
+turns v rise r =
+    let voxels = list-turned v rise r in
+    record {
+      voxels = voxels;
+      parts =
+          ap (map (partOf v (turned r))) voxels
+          ∙ map-same (partOf v (turned r)) (partOf v r) (voxel-turned v r) (reverse (listOf v r))
+          ∙ map-reverse (partOf v r) (listOf v r);
+      d = d-turned r;
+      span = span-turned v r;
+      crossed = crossed-turned v r;
+      sum = sum-turned v r;
+      squared = squared-turned r;
+    }
 
 -- for every grid and every ray, accepted or not
 pub grid-turns : (g : Grid) (r : Ray) → Turns (volume g) r
