@@ -1,10 +1,10 @@
 -- Voxels that a ray meets follow one another: it leaves the one before it enters the other, or as it does. Of a volume it is only
 -- used that its planes do not fall. Assumes nothing.
 use Prim.Native.Nat.{ℕ, _+_, _*_, _≤_, _<_, min}
-use mathlib.Core.Path.{_≡_, sym, ap, subst}
+use mathlib.Core.Path.{_≡_, sym, ap}
 use mathlib.Core.Bool.{true, false, _&&_}
 use mathlib.Core.Logic.{_⊎_, inl, inr, ⊎-elim}
-use native.Mathlib.Nat.{min-le-left, min-le-right, le-max-left, le-max-right, le-trans, le-of-lt, lt-of-lt-of-le, lt-irrefl}
+use native.Mathlib.Nat.{min-le-left, min-le-right, le-max-left, le-max-right, le-trans, le-of-lt, le-of-eq, lt-of-lt-of-le, lt-irrefl}
 use native.Mathlib.Omega.{arith}
 use native.Mathlib.Decide.{decLt, ℕ-discrete}
 use lib.IntN.{ℤ}
@@ -57,6 +57,10 @@ module _ (r : Ray) (s : Side) where
 
 -- ---- boxes and voxels
 
+-- of two voxels, the ray leaves the one before it enters the other, or as it does
+abbrev OneFirst : Volume → Ray → ℕ → ℕ → Type 0
+OneFirst v r m w = (stop r (voxel v m) ≤ start r (voxel v w)) ⊎ (stop r (voxel v w) ≤ start r (voxel v m))
+
 clash : (a b c : ℕ) → a < b → b ≤ c → a ≡ c → ⊥
 clash a b c h k e = omega arith
 
@@ -78,8 +82,7 @@ module _ (r : Ray) (b : Side → Slab) where
 
 module _ (v : Volume) (rise : Rise v) (r : Ray) where
   -- m below w on a side
-  below-side : (m w : ℕ) → w < count v → Met r (voxel v m) → Met r (voxel v w) → (s : Side) → index v m s < index v w s
-      → (stop r (voxel v m) ≤ start r (voxel v w)) ⊎ (stop r (voxel v w) ≤ start r (voxel v m))
+  below-side : (m w : ℕ) → w < count v → Met r (voxel v m) → Met r (voxel v w) → (s : Side) → index v m s < index v w s → OneFirst v r m w
   below-side m w hw mm mw s h =
       let i : index v w s < v s .n = index-below v w hw s in
       ⊎-elim
@@ -99,14 +102,14 @@ module _ (v : Volume) (rise : Rise v) (r : Ray) where
     met-w : Met r (voxel v w)
     met-w = met r (voxel v w) (rw (part-voxel v r w) at pw)
 
-    side-apart : (s : Side) → (index v m s ≡ index v w s → ⊥) → (stop r (voxel v m) ≤ start r (voxel v w)) ⊎ (stop r (voxel v w) ≤ start r (voxel v m))
+    side-apart : (s : Side) → (index v m s ≡ index v w s → ⊥) → OneFirst v r m w
     side-apart s h = elim (decLt (index v m s) (index v w s)) [
       | yes l ↦ below-side m w hw met-m met-w s l
       | no l ↦ ⊎-elim (λ a. inr a) (λ a. inl a) (below-side w m hm met-w met-m s (omega arith))
     ]
 
     -- two voxels with a part: one follows the other
-    pub voxel-apart : (m ≡ w → ⊥) → (stop r (voxel v m) ≤ start r (voxel v w)) ⊎ (stop r (voxel v w) ≤ start r (voxel v m))
+    pub voxel-apart : (m ≡ w → ⊥) → OneFirst v r m w
     voxel-apart h = elim (ℕ-discrete (index v m X) (index v w X)) [
       | no k ↦ side-apart X k
       | yes x ↦ elim (ℕ-discrete (index v m Y) (index v w Y)) [
@@ -122,7 +125,8 @@ module _ (v : Volume) (rise : Rise v) (r : Ray) where
 
     -- the one that starts first is left first
     pub follows : start r (voxel v m) < start r (voxel v w) → stop r (voxel v m) ≤ start r (voxel v w)
-    follows h = ⊎-elim (λ l. l) (λ l. absurd (lt-irrefl _ (lt-of-lt-of-le h (le-trans (le-of-lt (met-w .some)) l)))) (voxel-apart (λ e. lt-irrefl _ (subst (λ (x : ℕ). start r (voxel v m) < x) (sym (ap (starts v r) e)) h)))
+    follows h =
+        ⊎-elim (λ l. l) (λ l. absurd (lt-irrefl _ (lt-of-lt-of-le h (le-trans (le-of-lt (met-w .some)) l)))) (voxel-apart (λ e. lt-irrefl _ (lt-of-lt-of-le h (le-of-eq (ap (starts v r) (sym e))))))
 
   pub starts-apart : Apart (starts v r) (partOf v r) (count v)
   starts-apart m w hm hw pm pw e = elim (ℕ-discrete m w) [

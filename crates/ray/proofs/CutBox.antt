@@ -92,7 +92,7 @@ module _ {of : ℕ → ℕ} {r t : Ray} (piece : Piece of r t) where
   -- what it has of a box
   module _ (b : Side → Slab) where
     part-piece : holds r b ≡ true → part t b * of (dOf r) ≡ (of (stop r b) - of (begin r b)) * dOf t
-    part-piece h = rw (part-held t b (holds-piece b ∙ h)) (scaled (stop t b) (begin t b) (of (dOf r)) (of (stop r b)) (of (begin r b)) (dOf t) (stop-as alike b) (begin-as alike b))
+    part-piece h = rw (part-held t b (holds-piece b ∙ h)) (scaled _ _ _ _ _ _ (stop-as alike b) (begin-as alike b))
 
     part-none : holds r b ≡ false → part t b * of (dOf r) ≡ 0 * dOf t
     part-none h = rw (part-not-held t b (holds-piece b ∙ h), zero-mul (of (dOf r)), zero-mul (dOf t))
@@ -106,7 +106,7 @@ module _ {of : ℕ → ℕ} {r t : Ray} (piece : Piece of r t) where
     pub piece-met : (s : Side) → moving (leg r s) ≡ true → 0 < part t b → PieceMet
     piece-met s moves h =
         let n : Met t b = met t b h in
-        let l : of (begin r b) < of (stop r b) = scaled-order (begin t b) (stop t b) (of (dOf r)) (of (begin r b)) (of (stop r b)) (dOf t) (size-pos s moves) (begin-as alike b) (stop-as alike b) (rw (n .begins) (n .some)) in
+        let l : of (begin r b) < of (stop r b) = scaled-order _ _ _ _ _ _ (size-pos s moves) (begin-as alike b) (stop-as alike b) (rw (n .begins) (n .some)) in
         let ahead : begin r b < stop r b = lower (piece .rises) (begin r b) (stop r b) l in
         let some : 0 < part r b = rw (part-held r b (sym (holds-piece b) ∙ n .held)) (sub-pos-iff-lt .1 ahead) in
         let w : Met r b = met r b some in

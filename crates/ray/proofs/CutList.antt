@@ -22,7 +22,7 @@ use Rattle.ray.proofs.Apart.{voxel-apart, starts-apart}
 use Rattle.ray.proofs.CutBox.{Between, near, far, scaled-order, Piece, lower, size-pos, PieceMet, piece-met, upTo, near-piece, far-piece, parts}
 use Rattle.ray.proofs.Cut.{difference, Mean, differences, voxel-cut, sum-cut, same-quotient, same-quotient-far}
 use Rattle.ray.proofs.Ends.{moves-on}
-use Rattle.ray.proofs.Seam.{joined, joined-cases, joined-left, joined-right, joined-rising, Below}
+use Rattle.ray.proofs.Seam.{joined, joined-cases, joined-all, joined-rising, Below}
 
 rising-as : (f g : ℕ → ℕ) (xs : List ℕ) → ((a b : ℕ) → List·Memᴰ a xs → List·Memᴰ b xs → f a < f b → g a < g b) → Rising f xs → Rising g xs
 rising-as f g [] h r = tt
@@ -49,7 +49,7 @@ module _ (v : Volume) {of : ℕ → ℕ} {r t : Ray} (piece : Piece of r t) (o :
   piece-rising : Rise v → Rising (starts v r) (listOf v t)
   piece-rising rise = rising-as (starts v t) (starts v r) (listOf v t)
       (λ a b ma mb l. lower (piece .rises) (starts v r a) (starts v r b)
-      (scaled-order (starts v t a) (starts v t b) (of (dOf r)) (of (starts v r a)) (of (starts v r b)) (dOf t) (size-pos piece o moves) (met-in a ma .1 .at) (met-in b mb .1 .at) l))
+      (scaled-order _ _ _ _ _ _ (size-pos piece o moves) (met-in a ma .1 .at) (met-in b mb .1 .at) l))
       (list-listed v t (starts-apart v rise t) .rising)
 
 -- ---- both
@@ -84,10 +84,8 @@ module _ (v : Volume) (rise : Rise v) {r : Ray} {m : End} (between : Between r m
         (λ k. (in-near w k .0, rw (part-voxel v r w) (in-near w k .1 .some)))
         (λ k. (in-far w k .0, rw (part-voxel v r w) (in-far w k .1 .some)))
         (joined-cases (listOf v (far r m)) w (listOf v (near r m)) h);
-    whole = λ w i h. ⊎-elim
-        (λ k. joined-left (listOf v (far r m)) w (listOf v (near r m)) (list-whole v (near r m) w i k))
-        (λ k. joined-right (listOf v (far r m)) w (listOf v (near r m)) (list-whole v (far r m) w i k))
-        (either w h);
+    whole = λ w i h. joined-all (listOf v (far r m)) w (listOf v (near r m))
+        (⊎-elim (λ k. inl (list-whole v (near r m) w i k)) (λ k. inr (list-whole v (far r m) w i k)) (either w h));
     rising = joined-rising (starts v r) _ _ (piece-rising v (near-piece between o moves) o moves rise) (piece-rising v (far-piece between o moves) o moves rise) below;
   }
 

@@ -29,11 +29,6 @@ abbrev pub Apart : (ℕ → ℕ) → (ℕ → ℕ) → ℕ → Type 0
 Apart starts part count = (m w : ℕ) → m < count → w < count → 0 < part m → 0 < part w → starts m ≡ starts w → m ≡ w
 
 module _ (starts part : ℕ → ℕ) (count : ℕ) where
-  pub only-list : (vs ws : List ℕ) → Listed starts part count vs → Listed starts part count ws → vs ≡ ws
-  only-list vs ws l k =
-      same-rising starts vs ws (l .rising) (k .rising)
-      (λ m h. k .whole m (l .sound m h .0) (l .sound m h .1)) (λ m h. l .whole m (k .sound m h .0) (k .sound m h .1))
-
   pub none-yet : (t : ℕ) → ((m : ℕ) → m < count → 0 < part m → t ≤ starts m) → SoFar starts part count t []
   none-yet t h = record {
     sound = λ m k. absurd (List·Memᴰ·not-nil k);
@@ -115,4 +110,6 @@ module _ (v : Volume) (r : Ray) where
     list-listed = record { sound = list-sound; whole = list-whole; rising = list-to-rising (count v) apart }
 
     pub list-is : (vs : List ℕ) → Listed starts (partOf v r) (count v) vs → vs ≡ listOf v r
-    list-is vs l = only-list starts (partOf v r) (count v) vs (listOf v r) l list-listed
+    list-is vs l =
+        let k = list-listed in
+        same-rising starts vs (listOf v r) (l .rising) (k .rising) (λ m h. k .whole m (l .sound m h .0) (l .sound m h .1)) (λ m h. l .whole m (k .sound m h .0) (k .sound m h .1))

@@ -1,7 +1,7 @@
 -- Volume and ray moved by a whole number k: what a trace hands back is the same. No bound on any number. Assumes nothing.
 use Prim.Native.Nat.{ℕ, zero, suc, _+_, _-_, _*_, _/_, _%_, min, max}
-use mathlib.Core.Path.{_≡_, refl, ap, _∙_}
-use mathlib.Core.Bool.{_&&_, _||_, not, cond}
+use mathlib.Core.Path.{_≡_, refl, ap, ap₂, _∙_}
+use mathlib.Core.Bool.{Bool, _&&_, _||_, not, cond}
 use mathlib.Core.List.{List}
 use lib.IntN.{ℤ, natAbs, _+ℤ_, _-ℤ_}
 use lib.Dec.{leb, ltb, eqb}
@@ -9,7 +9,7 @@ use lib.ListN.{getD}
 use Rattle.axis.specs.Leg.{Slab, moving, factor, run, held, enters, leaves}
 use Rattle.ray.specs.declared.Ray.{Ray}
 use Rattle.ray.specs.Length.{Side, X, Y, Z, leg, dOf, rest, squaredOf, Volume, count, array, index, voxel, holds, start, stop, partOf, misses, spanOf, insert, listTo, listOf, total, sumOf, crosses, crossedOf}
-use Rattle.ray.proofs.Different.{alphaOf, some, crossesAt, crossedAt, differentOf}
+use Rattle.ray.proofs.Different.{alphaOf, some, crossedAt, differentOf}
 use Rattle.ray.proofs.MovedAxis.{legOn, slabOn, diff-on, moving-on, factor-on, run-on, held-on, enters-on, leaves-on}
 
 pub record Moved (k : ℤ) (v v′ : Volume) (r r′ : Ray) : Type 0 where
@@ -35,9 +35,8 @@ module _ {k : ℤ} {v v′ : Volume} {r r′ : Ray} (moved : Moved k v v′ r r�
 
   pub squared-moved : squaredOf r′ ≡ squaredOf r
   squared-moved =
-      let d : (s : Side) → natAbs (leg r′ s .q -ℤ leg r′ s .p) ≡ natAbs (leg r s .q -ℤ leg r s .p) = λ s.
-      (λ t. natAbs (moved .ends s t -ℤ moved .starts s t)) ∙ ap natAbs (diff-on k (leg r s .q) (leg r s .p)) in
-      λ t. d X t * d X t + d Y t * d Y t + d Z t * d Z t
+      let diff : (s : Side) → leg r′ s .q -ℤ leg r′ s .p ≡ leg r s .q -ℤ leg r s .p = λ s. ap₂ _-ℤ_ (moved .ends s) (moved .starts s) ∙ diff-on k (leg r s .q) (leg r s .p) in
+      λ t. let d : Side → ℕ = λ s. natAbs (diff s t) in d X * d X + d Y * d Y + d Z * d Z
 
   -- any box that is moved along
   module _ (b : Side → Slab) {b′ : Side → Slab} (box : (s : Side) → b′ s ≡ slabOn k (b s)) where
@@ -120,17 +119,12 @@ module _ {k : ℤ} {v v′ : Volume} {r r′ : Ray} (moved : Moved k v v′ r r�
 
   pub crossed-moved : crossedOf v′ r′ ≡ crossedOf v r
   unfolding crossedOf
-  crossed-moved =
-      let on : (s : Side) → total (λ i. cond (crosses v′ r′ s i) 1 0) (v′ s .n + 1) ≡ total (λ i. cond (crosses v r s i) 1 0) (v s .n + 1) = λ s.
-      λ t. total (λ i. cond (crosses-moved s i t) 1 0) (moved .sizes s t + 1) in
-      λ t. cond (misses-moved t) 0 (on X t + on Y t + on Z t)
+  crossed-moved = λ t. let on : Side → ℕ = λ s. total (λ i. cond (crosses-moved s i t) 1 0) (moved .sizes s t + 1) in cond (misses-moved t) 0 (on X + on Y + on Z)
 
   crossed-at-moved : (x : ℕ) → crossedAt v′ r′ x ≡ crossedAt v r x
   unfolding crossedAt
   crossed-at-moved x =
-      let on : (s : Side) → some (crossesAt v′ r′ x s) (v′ s .n + 1) ≡ some (crossesAt v r x s) (v s .n + 1) = λ s.
-      λ t. some (λ i. crosses-moved s i t && eqb (alpha-moved s i t) x) (moved .sizes s t + 1) in
-      λ t. on X t || (on Y t || on Z t)
+      λ t. let on : Side → Bool = λ s. some (λ i. crosses-moved s i t && eqb (alpha-moved s i t) x) (moved .sizes s t + 1) in on X || (on Y || on Z)
 
   pub different-moved : differentOf v′ r′ ≡ differentOf v r
   unfolding differentOf

@@ -2,7 +2,7 @@
 use Prim.Native.Nat.{ℕ, suc, _≤_, _<_}
 use mathlib.Core.Path.{_≡_, refl, sym, ap, _∙_}
 use mathlib.Core.Bool.{cond}
-use mathlib.Core.List.{List, [], _∷_, List·Memᴰ, List·Memᴰ·head, List·Memᴰ·tail, List·Memᴰ·cases-cons, List·Memᴰ·not-nil}
+use mathlib.Core.List.{List, [], _∷_, List·Memᴰ, List·Memᴰ·head, List·Memᴰ·tail, List·Memᴰ·cases-cons, List·Memᴰ·eq-of-singleton, List·Memᴰ·not-nil}
 use mathlib.Core.Logic.{_⊎_, inl, inr, ⊎-elim}
 use native.Mathlib.Omega.{arith}
 use native.Mathlib.Decide.{ℕ-discrete}
@@ -46,17 +46,14 @@ module _ (ys : List ℕ) (w : ℕ) where
   joined-cases (x ∷ z ∷ xs) h =
       ⊎-elim (λ e. inl (List·Memᴰ·head e)) (λ k. ⊎-elim (λ l. inl (List·Memᴰ·tail l)) (λ l. inr l) (joined-cases (z ∷ xs) k)) (List·Memᴰ·cases-cons h)
 
-  pub joined-left : (xs : List ℕ) → List·Memᴰ w xs → List·Memᴰ w (joined xs ys)
+  pub joined-all : (xs : List ℕ) → List·Memᴰ w xs ⊎ List·Memᴰ w ys → List·Memᴰ w (joined xs ys)
   unfolding joined
-  joined-left [] h = absurd (List·Memᴰ·not-nil h)
-  joined-left (x ∷ []) h = ⊎-elim (λ e. List·Memᴰ·head e) (λ k. absurd (List·Memᴰ·not-nil k)) (List·Memᴰ·cases-cons h)
-  joined-left (x ∷ z ∷ xs) h = ⊎-elim (λ e. List·Memᴰ·head e) (λ k. List·Memᴰ·tail (joined-left (z ∷ xs) k)) (List·Memᴰ·cases-cons h)
-
-  pub joined-right : (xs : List ℕ) → List·Memᴰ w ys → List·Memᴰ w (joined xs ys)
-  unfolding joined
-  joined-right [] h = h
-  joined-right (x ∷ []) h = past-all x w ys h
-  joined-right (x ∷ z ∷ xs) h = List·Memᴰ·tail (joined-right (z ∷ xs) h)
+  joined-all [] (inl h) = absurd (List·Memᴰ·not-nil h)
+  joined-all [] (inr h) = h
+  joined-all (x ∷ []) (inl h) = List·Memᴰ·head (List·Memᴰ·eq-of-singleton h)
+  joined-all (x ∷ []) (inr h) = past-all x w ys h
+  joined-all (x ∷ z ∷ xs) (inl h) = ⊎-elim (λ e. List·Memᴰ·head e) (λ k. List·Memᴰ·tail (joined-all (z ∷ xs) (inl k))) (List·Memᴰ·cases-cons h)
+  joined-all (x ∷ z ∷ xs) (inr h) = List·Memᴰ·tail (joined-all (z ∷ xs) (inr h))
 
 past-long : (x : ℕ) (ys : List ℕ) → length ys ≤ suc (length (past x ys))
 unfolding past

@@ -14,7 +14,6 @@ use Rattle.axis.proofs.Flag.{off-or-on}
 use Rattle.axis.proofs.Shift.{shift, Low}
 use Rattle.ray.specs.declared.Ray.{Ray}
 use Rattle.ray.specs.Length.{Side, X, Y, Z, leg, dOf, rest, squaredOf, Volume, count, array, voxel, holds, start, stop, partOf, misses, spanOf, total, sumOf, crosses, crossedOf}
-use Rattle.ray.proofs.Total.{total-same}
 use Rattle.ray.proofs.Through.{max-falls, min-falls, sides-as, either-as, sub-times}
 use Rattle.ray.proofs.Down.{down-falls, later, Flipped, gap-down, leb-down, crossing-down}
 use Rattle.ray.proofs.Tests.{tested}
@@ -149,7 +148,7 @@ module _ (v : Volume) (r : Ray) where
 
   pub sum-turned : (densities : List ℕ) → sumOf v (turned r) densities ≡ sumOf v r densities
   unfolding sumOf
-  sum-turned densities = total-same _ _ (count v) (λ m h. ap (λ (x : ℕ). x * getD densities m 0) (voxel-turned m))
+  sum-turned densities = λ t. total (λ m. voxel-turned m t * getD densities m 0) (count v)
 
   -- a plane is crossed either way
   pub crosses-turned : (s : Side) (i : ℕ) → crosses v (turned r) s i ≡ crosses v r s i
@@ -165,7 +164,4 @@ module _ (v : Volume) (r : Ray) where
 
   pub crossed-turned : crossedOf v (turned r) ≡ crossedOf v r
   unfolding crossedOf
-  crossed-turned =
-      let same : (s : Side) → total (λ i. cond (crosses v (turned r) s i) 1 0) (v s .n + 1) ≡ total (λ i. cond (crosses v r s i) 1 0) (v s .n + 1) =
-      λ s. total-same _ _ (v s .n + 1) (λ i h. ap (λ (t : Bool). cond t 1 0) (crosses-turned s i)) in
-      rw (misses-turned, same X, same Y, same Z)
+  crossed-turned = λ t. let on : Side → ℕ = λ s. total (λ i. cond (crosses-turned s i t) 1 0) (v s .n + 1) in cond (misses-turned t) 0 (on X + on Y + on Z)

@@ -36,13 +36,9 @@ module _ (v : Volume) (r : Ray) where
         | no p ↦ rw (le-ltb 0 (partOf v r n) (omega arith)) (omega (arith, before, zeros n (omega arith) (omega arith)))
       ]
 
-  pub list-total : (f : ℕ → ℕ) → ((m : ℕ) → m < count v → partOf v r m ≡ 0 → f m ≡ 0) → total f (count v) ≡ sumList (map f (listOf v r))
-  unfolding listOf
-  list-total f zeros = list-to-total f (count v) zeros
-
   pub sum-list : (densities : List ℕ) → sumOf v r densities ≡ sumList (map (λ m. partOf v r m * getD densities m 0) (listOf v r))
-  unfolding sumOf
-  sum-list densities = list-total (λ m. partOf v r m * getD densities m 0) (λ m i e. rw (e, zero-mul) refl)
+  unfolding sumOf listOf
+  sum-list densities = list-to-total (λ m. partOf v r m * getD densities m 0) (count v) (λ m i e. rw (e, zero-mul) refl)
 
   -- RULES 5: a density outside the list has no say.
   pub sum-outside : (densities others : List ℕ) → ((m : ℕ) → List·Memᴰ m (listOf v r) → getD densities m 0 ≡ getD others m 0) → sumOf v r densities ≡ sumOf v r others
