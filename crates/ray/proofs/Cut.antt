@@ -21,6 +21,10 @@ use Rattle.ray.proofs.CutBox.{Between, near, far, sides, near-piece, fa
 abbrev pub difference : Ray → Side → ℕ
 difference r s = natAbs (leg r s .q -ℤ leg r s .p)
 
+-- the differences of a piece t over those of r are the same on every moving axis
+abbrev pub Quotient : Ray → Ray → Type 0
+Quotient r t = (s o : Side) → moving (leg r s) ≡ true → moving (leg r o) ≡ true → difference t s * difference r o ≡ difference t o * difference r s
+
 -- The mean of two pieces, of lengths f₁ and f₂ on an axis on which the whole has f: x/d = f₁/f · x₁/d₁ + f₂/f · x₂/d₂. Every denominator
 -- is above zero, so this is the equation multiplied across.
 pub record MeanOf (f f₁ f₂ d d₁ d₂ x x₁ x₂ : ℕ) : Type 0 where
@@ -114,12 +118,11 @@ module _ {r : Ray} {m : End} (between : Between r m) where
       unfolding sumOf
       sum-cut densities = mean (λ t. sumOf v t densities) (linear _ _ _ (partOf v r) (partOf v (near r m)) (partOf v (far r m)) (λ w. getD densities w 0) voxel-spread (count v))
 
-  -- the weights are the same whichever moving axis they are read off
-  pub same-quotient : (s t : Side) → moving (leg r s) ≡ true → moving (leg r t) ≡ true → difference (near r m) s * difference r t ≡ difference (near r m) t * difference r s
+  pub same-quotient : Quotient r (near r m)
   same-quotient s t hs ht =
       eq-of-mul-eq-mul-left (between .d) (omega (arith, between .less)) _ _
-      (cross (between .n) (between .d) (difference (near r m) s) (difference r s) (difference (near r m) t) (difference r t) (α-difference s hs) (α-difference t ht))
+      (cross (between .n) (between .d) _ _ _ _ (α-difference s hs) (α-difference t ht))
 
-  pub same-quotient-far : (s t : Side) → moving (leg r s) ≡ true → moving (leg r t) ≡ true → difference (far r m) s * difference r t ≡ difference (far r m) t * difference r s
+  pub same-quotient-far : Quotient r (far r m)
   same-quotient-far s t hs ht =
-      left (difference (near r m) s) (difference (far r m) s) (difference r s) (difference (near r m) t) (difference (far r m) t) (difference r t) (differences s hs) (differences t ht) (same-quotient s t hs ht)
+      left (difference (near r m) s) _ _ (difference (near r m) t) _ _ (differences s hs) (differences t ht) (same-quotient s t hs ht)

@@ -20,7 +20,7 @@ use Rattle.ray.proofs.Capped.{part, part-voxel, d-pos, met}
 use Rattle.ray.proofs.Planes.{Rise, grid-rise}
 use Rattle.ray.proofs.Apart.{voxel-apart, starts-apart}
 use Rattle.ray.proofs.CutBox.{Between, near, far, scaled-order, Piece, lower, size-pos, PieceMet, piece-met, upTo, near-piece, far-piece, parts}
-use Rattle.ray.proofs.Cut.{difference, Mean, differences, voxel-cut, sum-cut, same-quotient, same-quotient-far}
+use Rattle.ray.proofs.Cut.{difference, Quotient, Mean, differences, voxel-cut, sum-cut, same-quotient, same-quotient-far}
 use Rattle.ray.proofs.Ends.{moves-on}
 use Rattle.ray.proofs.Seam.{joined, joined-cases, joined-all, joined-rising, Below}
 
@@ -37,7 +37,11 @@ some-piece p k zero c df (suc pf) e dn hp hk h = inr (omega arith)
 some-piece p k zero c df zero e dn hp hk h =
     absurd (omega (arith, mul-pos {m = p} {n = k} hp hk, ap (λ (x : ℕ). x * df) (zero-mul c), zero-mul df, ap (λ (x : ℕ). x * dn) (zero-mul e), zero-mul dn))
 
-absent : (v : Volume) (r : Ray) (w : ℕ) → w < count v → (List·Memᴰ w (listOf v r) → ⊥) → partOf v r w ≡ 0
+-- a voxel that is not in the list has part 0
+abbrev pub Absent : Volume → Ray → Type 0
+Absent v r = (w : ℕ) → w < count v → (List·Memᴰ w (listOf v r) → ⊥) → partOf v r w ≡ 0
+
+absent : (v : Volume) (r : Ray) → Absent v r
 absent v r w h out = elim (decLt 0 (partOf v r w)) [ yes p ↦ absurd (out (list-whole v r w h p)) | no p ↦ omega arith ]
 
 -- ---- one piece
@@ -100,11 +104,11 @@ module _ (v : Volume) (rise : Rise v) {r : Ray} {m : End} (between : Between r m
 pub record Cuts (v : Volume) (r : Ray) (m : End) : Type 0 where
   pub voxels : listOf v r ≡ joined (listOf v (near r m)) (listOf v (far r m))
   pub differences : (s : Side) → moving (leg r s) ≡ true → difference (near r m) s + difference (far r m) s ≡ difference r s
-  pub quotient : (s t : Side) → moving (leg r s) ≡ true → moving (leg r t) ≡ true → difference (near r m) s * difference r t ≡ difference (near r m) t * difference r s
-  pub quotient-far : (s t : Side) → moving (leg r s) ≡ true → moving (leg r t) ≡ true → difference (far r m) s * difference r t ≡ difference (far r m) t * difference r s
+  pub quotient : Quotient r (near r m)
+  pub quotient-far : Quotient r (far r m)
   pub part : (s : Side) → moving (leg r s) ≡ true → (w : ℕ) → Mean r m s (λ t. partOf v t w)
-  pub near-absent : (w : ℕ) → w < count v → (List·Memᴰ w (listOf v (near r m)) → ⊥) → partOf v (near r m) w ≡ 0
-  pub far-absent : (w : ℕ) → w < count v → (List·Memᴰ w (listOf v (far r m)) → ⊥) → partOf v (far r m) w ≡ 0
+  pub near-absent : Absent v (near r m)
+  pub far-absent : Absent v (far r m)
   pub sum : (s : Side) → moving (leg r s) ≡ true → (densities : List ℕ) → Mean r m s (λ t. sumOf v t densities)
 
 pub cuts : (v : Volume) → Rise v → {r : Ray} {m : End} → Between r m → (o : Side) → moving (leg r o) ≡ true → Cuts v r m

@@ -1,7 +1,8 @@
 -- Demand 3, a ray turned round: in every box it has the same length, and enters where the ray leaves. Assumes nothing.
 use Prim.Native.Nat.{ℕ, _+_, _-_, _*_, _≤_, _<_, min, max}
 use mathlib.Core.Path.{_≡_, refl, sym, ap, ap₂, _∙_}
-use mathlib.Core.Bool.{Bool, true, false, _&&_, _||_, cond}
+use mathlib.Core.Bool.{Bool, true, _&&_, cond}
+pub use mathlib.Core.Bool.{or-comm}
 use mathlib.Core.List.{List}
 use mathlib.Core.Logic.{inl, inr}
 use lib.ListN.{getD}
@@ -9,7 +10,7 @@ use native.Mathlib.Nat.{sub-self, sub-zero}
 use native.Mathlib.Omega.{arith}
 use lib.IntN.{ℤ, natAbs, _-ℤ_}
 use lib.Signed.{ltZ}
-use Rattle.axis.specs.Leg.{Leg, moving, factor, run, Slab, held}
+use Rattle.axis.specs.Leg.{Leg, moving, factor, Slab, held}
 use Rattle.axis.proofs.Flag.{off-or-on}
 use Rattle.axis.proofs.Shift.{shift, Low}
 use Rattle.ray.specs.declared.Ray.{Ray}
@@ -18,18 +19,13 @@ use Rattle.ray.proofs.Through.{max-falls, min-falls, sides-as, either-a
 use Rattle.ray.proofs.Down.{down-falls, later, Flipped, gap-down, leb-down, crossing-down}
 use Rattle.ray.proofs.Tests.{tested}
 use Rattle.ray.proofs.Told.{gap-shift, level}
+use Rattle.ray.proofs.Different.{alphaOf}
 use Rattle.ray.proofs.Way.{Way, up, down, still, Goes, Going, moving-by, factor-by, run-by, passed, told, still-same, held-same}
 use Rattle.ray.proofs.Capped.{on, on-passed, d-side, enter, leave, begin, begin-sides, stop-sides, stop-cap, part, part-voxel, Met, met}
 
 -- the leg from q to p
 abbrev back : Leg → Leg
 back l = record { p = l .q; q = l .p }
-
-pub or-comm : (a b : Bool) → (a || b) ≡ (b || a)
-or-comm true true = refl
-or-comm true false = refl
-or-comm false true = refl
-or-comm false false = refl
 
 moving-back : (l : Leg) → moving (back l) ≡ moving l
 moving-back l = or-comm (ltZ (l .q) (l .p)) (ltZ (l .p) (l .q))
@@ -124,12 +120,7 @@ module _ (r : Ray) where
   order-turned a b ha hb h =
       let ma : Met (turned r) a = met (turned r) a (rw (part-turned a) ha) in
       let mb : Met (turned r) b = met (turned r) b (rw (part-turned b) hb) in
-      later (dOf r) (stop r a) (start r b) (stop r b) (start (turned r) a) (start (turned r) b)
-      (met r b hb .some)
-      h
-      (stop-cap r b)
-      (sym (ma .begins) ∙ begin-turned a)
-      (sym (mb .begins) ∙ begin-turned b)
+      later (dOf r) (stop r a) (start r b) (stop r b) _ _ (met r b hb .some) h (stop-cap r b) (sym (ma .begins) ∙ begin-turned a) (sym (mb .begins) ∙ begin-turned b)
 
   pub squared-turned : squaredOf (turned r) ≡ squaredOf r
   squared-turned = rw (abs-back (r .p .x) (r .q .x), abs-back (r .p .y) (r .q .y), abs-back (r .p .z) (r .q .z))
@@ -155,12 +146,9 @@ module _ (v : Volume) (r : Ray) where
   unfolding crosses on
   crosses-turned s i = elim (tested (moving (leg r s))) [
     | inl e ↦ ap₂ _&&_ (moving-turned r s)
-        (crossing-down (flipped r (array v)) (α r) (α (turned r)) (ap (λ (d : ℕ). min d (α (turned r))) (sym (d-turned r)) ∙ on-turned r s (v s .at i) e))
+        (crossing-down (flipped r (array v)) (alphaOf v r s i) (alphaOf v (turned r) s i) (ap (λ (d : ℕ). min d (alphaOf v (turned r) s i)) (sym (d-turned r)) ∙ on-turned r s (v s .at i) e))
     | inr e ↦ rw (moving-turned r s, e)
   ]
-    where
-      α : Ray → ℕ
-      α t = run (leg t s) (v s .at i) * rest t s
 
   pub crossed-turned : crossedOf v (turned r) ≡ crossedOf v r
   unfolding crossedOf
