@@ -11,11 +11,11 @@ use Rattle.axis.specs.Leg.{moving, factor, Slab}
 use Rattle.ray.specs.declared.End.{End}
 use Rattle.ray.specs.declared.Ray.{Ray}
 use Rattle.ray.specs.Length.{Side, X, Y, Z, leg, dOf, rest, holds, start, stop}
-use Rattle.ray.proofs.Through.{Rises, min-cap-rises, times-rises, sub-times, min-rises}
+use Rattle.ray.proofs.Through.{Rises, rises-back, min-cap-rises, times-rises, sub-times, min-rises}
 use Rattle.ray.proofs.Tests.{tested}
 use Rattle.ray.proofs.Way.{passed, factor-pos}
 use Rattle.ray.proofs.Capped.{on-passed, d-side, rest-pos, begin, part, part-held, part-not-held, Met, met, Alike, begin-as, stop-as}
-use Rattle.ray.proofs.CutLeg.{CutAt, PieceOf, Pieces, pieces}
+use Rattle.ray.proofs.CutLeg.{CutAt, LegPiece, LegPieces, pieces}
 
 abbrev pub coordinate : End → Side → ℤ
 coordinate m X = m .x
@@ -61,11 +61,8 @@ pub record Piece (of : ℕ → ℕ) (r t : Ray) : Type 0 where
   pub rises : Rises of
   pub none : of 0 ≡ 0
   pub one : Side → ℕ → ℕ
-  pub side : (s : Side) → PieceOf (one s) (leg r s) (leg t s)
+  pub side : (s : Side) → LegPiece (one s) (leg r s) (leg t s)
   pub scale : (s : Side) → moving (leg r s) ≡ true → (x : ℕ) → of (x * rest r s) ≡ one s x * rest r s
-
-pub lower : {of : ℕ → ℕ} → Rises of → (b e : ℕ) → of b < of e → b < e
-lower rises b e h = elim (decLe e b) [ yes l ↦ absurd (omega (arith, rises e b l)) | no l ↦ omega arith ]
 
 module _ {of : ℕ → ℕ} {r t : Ray} (piece : Piece of r t) where
   holds-piece : (b : Side → Slab) → holds t b ≡ holds r b
@@ -107,7 +104,7 @@ module _ {of : ℕ → ℕ} {r t : Ray} (piece : Piece of r t) where
     piece-met s moves h =
         let n : Met t b = met t b h in
         let l : of (begin r b) < of (stop r b) = scaled-order _ _ _ _ _ _ (size-pos s moves) (begin-as alike b) (stop-as alike b) (rw (n .begins) (n .some)) in
-        let ahead : begin r b < stop r b = lower (piece .rises) (begin r b) (stop r b) l in
+        let ahead : begin r b < stop r b = rises-back (piece .rises) (begin r b) (stop r b) l in
         let some : 0 < part r b = rw (part-held r b (sym (holds-piece b) ∙ n .held)) (sub-pos-iff-lt .1 ahead) in
         let w : Met r b = met r b some in
         record { some = some; ahead = rw (w .begins) at l; at = rw (← w .begins, ← n .begins) (begin-as alike b) }
@@ -118,7 +115,7 @@ pub cut : (r : Ray) (m : End) (between : Between r m) (s : Side) → CutAt (betw
 cut r m between s = record { some = between .some; less = between .less; at = between .at s }
 
 module _ {r : Ray} {m : End} (between : Between r m) where
-  pub sides : (s : Side) → Pieces (between .n) (between .d) (leg r s) (leg (near r m) s) (leg (far r m) s)
+  pub sides : (s : Side) → LegPieces (between .n) (between .d) (leg r s) (leg (near r m) s) (leg (far r m) s)
   sides X = pieces (cut r m between X)
   sides Y = pieces (cut r m between Y)
   sides Z = pieces (cut r m between Z)

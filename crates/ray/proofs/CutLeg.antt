@@ -43,16 +43,16 @@ pub record CutAt (n d : ℕ) (l : Leg) (m : ℤ) : Type 0 where
   pub at : pos d *ℤ (m -ℤ l .p) ≡ pos n *ℤ (l .q -ℤ l .p)
 
 -- t is a piece of l: where l has passed x of its length, t has passed `of x` of its own
-pub record PieceOf (of : ℕ → ℕ) (l t : Leg) : Type 0 where
+pub record LegPiece (of : ℕ → ℕ) (l t : Leg) : Type 0 where
   pub moves : moving t ≡ moving l
   pub holds : (s : Slab) → held t s ≡ held l s
   pub length : moving l ≡ true → factor t ≡ of (factor l)
   pub passes : moving l ≡ true → (c : ℤ) → passed t c ≡ of (passed l c)
 
 -- the leg l in two pieces, n/d of it being the first
-pub record Pieces (n d : ℕ) (l t u : Leg) : Type 0 where
-  pub near : PieceOf (min (factor t)) l t
-  pub far : PieceOf (λ x. x - factor t) l u
+pub record LegPieces (n d : ℕ) (l t u : Leg) : Type 0 where
+  pub near : LegPiece (min (factor t)) l t
+  pub far : LegPiece (λ x. x - factor t) l u
   pub share : moving l ≡ true → d * factor t ≡ n * factor l
 
 module _ {n d : ℕ} {l : Leg} {m : ℤ} (cut : CutAt n d l m) where
@@ -121,7 +121,7 @@ module _ {n d : ℕ} {l : Leg} {m : ℤ} (cut : CutAt n d l m) where
       run-after : run (after l m) c ≡ run l c - factor (before l m)
       run-after = told l c m (λ k hc hm w t. lengths hm moved w t .2 c hc)
 
-  pub pieces : Pieces n d l (before l m) (after l m)
+  pub pieces : LegPieces n d l (before l m) (after l m)
   pieces = record {
     near = record {
       moves = moving-before;

@@ -14,12 +14,13 @@ use Rattle.ray.specs.declared.End.{End}
 use Rattle.ray.specs.declared.Ray.{Ray}
 use Rattle.ray.specs.Length.{Side, leg, dOf, Volume, volume, count, voxel, stop, partOf, listOf, sumOf}
 use Rattle.ray.specs.Codes.{endRows}
+use Rattle.ray.proofs.Through.{rises-back}
 use Rattle.ray.proofs.Rising.{Rising}
 use Rattle.ray.proofs.Listing.{Listed, starts, list-sound, list-whole, list-listed, list-is}
 use Rattle.ray.proofs.Capped.{part, part-voxel, d-pos, met}
 use Rattle.ray.proofs.Planes.{Rise, grid-rise}
 use Rattle.ray.proofs.Apart.{voxel-apart, starts-apart}
-use Rattle.ray.proofs.CutBox.{Between, near, far, scaled-order, Piece, lower, size-pos, PieceMet, piece-met, upTo, near-piece, far-piece, parts}
+use Rattle.ray.proofs.CutBox.{Between, near, far, scaled-order, Piece, size-pos, PieceMet, piece-met, upTo, near-piece, far-piece, parts}
 use Rattle.ray.proofs.Cut.{difference, Quotient, Mean, differences, voxel-cut, sum-cut, same-quotient, same-quotient-far}
 use Rattle.ray.proofs.Ends.{moves-on}
 use Rattle.ray.proofs.Seam.{joined, joined-cases, joined-all, joined-rising, Below}
@@ -52,7 +53,7 @@ module _ (v : Volume) {of : ℕ → ℕ} {r t : Ray} (piece : Piece of r t) (o :
 
   piece-rising : Rise v → Rising (starts v r) (listOf v t)
   piece-rising rise = rising-as (starts v t) (starts v r) (listOf v t)
-      (λ a b ma mb l. lower (piece .rises) (starts v r a) (starts v r b)
+      (λ a b ma mb l. rises-back (piece .rises) (starts v r a) (starts v r b)
       (scaled-order _ _ _ _ _ _ (size-pos piece o moves) (met-in a ma .1 .at) (met-in b mb .1 .at) l))
       (list-listed v t (starts-apart v rise t) .rising)
 

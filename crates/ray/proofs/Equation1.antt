@@ -1,16 +1,12 @@
 -- Equation (1) in fractions, over all voxels; and that the weighted sum over D is what it says (RULES 3).
 -- Assumes nothing.
 use Prim.Native.Nat.{ℕ, zero, suc, _*_}
-use mathlib.Core.Path.{ap}
 use mathlib.Core.List.{List}
-use native.Mathlib.Nat.{zero-mul}
-use native.Mathlib.Omega.{arith}
-use lib.IntN.{pos}
 use lib.ListN.{getD}
 use Rattle.ray.specs.declared.Ray.{Ray}
 use Rattle.ray.specs.Length.{dOf, Volume, count, voxel, partOf, total, sumOf}
 use Rattle.ray.proofs.Capped.{d-pos}
-use Rattle.ray.proofs.Fraction.{Fraction, plus, times, whole, Is, plus-is, times-is}
+use Rattle.ray.proofs.Fraction.{Fraction, plus, times, whole, Is, none-is, plus-is, times-is}
 use Rattle.ray.proofs.Formula.{lengthIn, voxel-length}
 
 -- the sum over the numbers below n
@@ -32,6 +28,6 @@ pub equation1-is : (v : Volume) (r : Ray) (densities : List ℕ) → Is (dOf r) 
 unfolding equation1 sumOf
 equation1-is v r densities =
     total-is (dOf r) (λ m. times (lengthIn r (voxel v m)) (getD densities m 0)) (λ m. partOf v r m * getD densities m 0)
-    (record { d-pos = d-pos r; den-pos = omega arith; is = ap pos (zero-mul (dOf r)) })
+    (none-is (d-pos r))
     (λ m. times-is (voxel-length v r m) (getD densities m 0))
     (count v)

@@ -5,7 +5,7 @@ use mathlib.Core.Path.{_≡_, refl, sym, ap, ap₂, _∙_}
 use mathlib.Core.Bool.{Bool, true, false, cond, true≢false}
 use mathlib.Core.List.{List, [], _∷_, map}
 use mathlib.Core.Logic.{inl, inr}
-use native.Mathlib.Nat.{mul-assoc, mul-comm, min-eq-right, min-le-right, min-comm, zero-max, max-zero, zero-mul, le-refl, le-trans}
+use native.Mathlib.Nat.{mul-assoc, mul-comm, min-eq-right, min-le-right, min-comm, zero-max, max-zero, le-refl, le-trans}
 use native.Mathlib.Omega.{arith}
 use lib.IntN.{ℤ, pos, negsuc, negℤ, natAbs, _-ℤ_, _*ℤ_, *ℤ-comm, *ℤ-zero, zero-*ℤ}
 use lib.Signed.{ltZ, leZ}
@@ -19,7 +19,7 @@ use Rattle.ray.proofs.Tests.{tested}
 use Rattle.ray.proofs.Told.{lt-le, le-diff, neg-diff}
 use Rattle.ray.proofs.Way.{factor-pos}
 use Rattle.ray.proofs.Capped.{d-side, d-pos, still-rest, part, part-voxel}
-use Rattle.ray.proofs.Fraction.{Fraction, lesser, greater, minus, whole, orZero, least, greatest, At, lesser-at, greater-at, Least0, greater-least0, minus-at, Is, exact, above-zero, or-zero}
+use Rattle.ray.proofs.Fraction.{Fraction, lesser, greater, minus, whole, orZero, least, greatest, At, Is, none-is, above-zero, or-zero, lesser-at, greater-at, greater-is, minus-at}
 
 -- α of the place c, (c - p) / (q - p), equation (4), with no sign below the line
 abbrev pub α : Leg → ℤ → Fraction
@@ -128,37 +128,23 @@ module _ (r : Ray) where
       | inr h ↦ rw (h, ← still-rest r s h, min-eq-right (lowest-cap ss)) (least-at ss)
     ]
 
-    greatest-at : (ss : List Side) → At (dOf r) (greatest (whole 0) (map (lesserα r b) (movers r ss))) (highest ss)
+    greatest-is : (ss : List Side) → Is (dOf r) (greatest (whole 0) (map (lesserα r b) (movers r ss))) (highest ss)
     unfolding highest greatest movers enter
-    greatest-at [] = record { d-pos = d-pos r; den-pos = omega arith; at = zero-mul (dOf r) }
-    greatest-at (s ∷ ss) = elim (tested (moving (leg r s))) [
+    greatest-is [] = none-is (d-pos r)
+    greatest-is (s ∷ ss) = elim (tested (moving (leg r s))) [
       | inl h ↦ rw (h, ← min-rises (λ x. x * rest r s) (times-rises (rest r s)) (run (leg r s) (b s .lo)) (run (leg r s) (b s .hi)))
-          (greater-at (lesser-at (α-at s (b s .lo) h) (α-at s (b s .hi) h)) (greatest-at ss))
-      | inr h ↦ rw (h, zero-max (highest ss)) (greatest-at ss)
+          (greater-is (lesser-at (α-at s (b s .lo) h) (α-at s (b s .hi) h)) (greatest-is ss))
+      | inr h ↦ rw (h, zero-max (highest ss)) (greatest-is ss)
     ]
 
-    greatest-least0 : (ss : List Side) → Least0 (greatest (whole 0) (map (lesserα r b) (movers r ss)))
-    unfolding greatest movers
-    greatest-least0 [] = refl
-    greatest-least0 (s ∷ ss) = elim (tested (moving (leg r s))) [
-      | inl h ↦ rw h (greater-least0 (lesserα r b s) (greatest (whole 0) (map (lesserα r b) (movers r ss))) (greatest-least0 ss))
-      | inr h ↦ rw h (greatest-least0 ss)
-    ]
-
-    pub αmin-least0 : Least0 (αmin r b)
-    αmin-least0 = greatest-least0 (X ∷ Y ∷ Z ∷ [])
-
-    pub αmin-at : At (dOf r) (αmin r b) (start r b)
+    -- αmin is start over D, whatever the ray. αmax, or zero if it is negative, is stop over D, and αmax itself where the ray meets the box.
+    pub αmin-is : Is (dOf r) (αmin r b) (start r b)
     unfolding highest enter
-    αmin-at = rw (← max-zero (enter Z)) (greatest-at (X ∷ Y ∷ Z ∷ []))
+    αmin-is = rw (← max-zero (enter Z)) (greatest-is (X ∷ Y ∷ Z ∷ []))
 
     pub αmax-at : At (dOf r) (αmax r b) (stop r b)
     unfolding lowest leave
     αmax-at = rw (← one-last (dOf r) (leave X) (leave Y) (leave Z)) (least-at (X ∷ Y ∷ Z ∷ []))
-
-    -- αmin is start over D, whatever the ray. αmax, or zero if it is negative, is stop over D, and αmax itself where the ray meets the box.
-    pub αmin-is : Is (dOf r) (αmin r b) (start r b)
-    αmin-is = exact αmin-at αmin-least0
 
     pub αmax-or-zero : Is (dOf r) (orZero (αmax r b)) (stop r b)
     αmax-or-zero = or-zero αmax-at
@@ -170,8 +156,8 @@ module _ (r : Ray) where
     pub length-is : Is (dOf r) (lengthIn r b) (part r b)
     unfolding part
     length-is = elim (tested (holds r b)) [
-      | inl h ↦ rw h (or-zero (minus-at αmax-at αmin-at αmin-least0))
-      | inr h ↦ rw h (record { d-pos = d-pos r; den-pos = omega arith; is = ap pos (zero-mul (dOf r)) })
+      | inl h ↦ rw h (or-zero (minus-at αmax-at αmin-is))
+      | inr h ↦ rw h (none-is (d-pos r))
     ]
 
 -- So of every voxel.

@@ -4,14 +4,15 @@ use mathlib.Core.Path.{_≡_, refl, sym, ap, ap₂, _∙_}
 use mathlib.Core.Bool.{Bool, true, false, not, _&&_, cond, true≢false}
 use mathlib.Core.List.{List, [], _∷_}
 use mathlib.Core.Logic.{_⊎_, inl, inr}
-use native.Mathlib.Nat.{mul-assoc, mul-right-comm, add-mul, zero-mul, mul-pos, eq-of-mul-eq-mul-right, mul-le-mul-right, le-of-mul-le-mul-right, min-eq-left, min-eq-right, max-eq-left, max-eq-right, zero-sub}
+use native.Mathlib.Nat.{mul-assoc, mul-comm, mul-right-comm, add-mul, zero-mul, mul-pos, eq-of-mul-eq-mul-right, mul-le-mul-right, le-of-mul-le-mul-right, min-eq-left, min-eq-right, max-eq-left, max-eq-right, zero-sub}
 use native.Mathlib.Omega.{arith}
+use native.Mathlib.Decide.{decLe}
 use lib.IntN.{ℤ, pos, negsuc, negℤ, _+ℤ_, _-ℤ_, _*ℤ_, +ℤ-idr, pos-ne-negsuc}
 use lib.Signed.{leZ, ltZ}
 use lib.Dec.{leb, ltb}
-use borrow.Author.Tests.{leb-true, le-leb, le-ltb}
+use borrow.Author.Tests.{leb-true, le-leb, lt-leb, le-ltb}
 use Rattle.axis.specs.Leg.{natural}
-use Rattle.axis.proofs.Flag.{off-or-on, lt-not-le, leb-same}
+use Rattle.axis.proofs.Flag.{lt-not-le, leb-same}
 use Rattle.axis.proofs.Shift.{natural-diff}
 use Rattle.ray.proofs.Through.{sub-times}
 use Rattle.ray.proofs.Tests.{tested}
@@ -96,15 +97,6 @@ sign : (z : ℤ) → (z ≡ pos (natural z)) ⊎ ((a : ℕ) × (z ≡ negsuc a))
 sign (pos a) = inl refl
 sign (negsuc a) = inr (a, refl)
 
-pub greater-least0 : (x y : Fraction) → Least0 y → Least0 (greater x y)
-greater-least0 x y h = elim (tested (x ≤ᶠ y)) [
-  | inl t ↦ rw t h
-  | inr t ↦ rw t (elim (sign (x .num)) [
-    | inl z ↦ z
-    | inr z ↦ off-or-on (x ≤ᶠ y) (ap₂ (λ (a c : ℤ). leZ (a *ℤ pos (y .den)) (c *ℤ pos (x .den))) (z .1) h ∙ low-times (z .0) (y .den) (natural (y .num) * x .den)) t
-  ])
-]
-
 -- ---- in units of 1/d
 
 -- x, or 0 where it is below, is n/d
@@ -119,89 +111,8 @@ pub record Is (d : ℕ) (x : Fraction) (n : ℕ) : Type 0 where
   pub den-pos : 0 < x .den
   pub is : x .num *ℤ pos d ≡ pos (n * x .den)
 
-module _ {d : ℕ} {x : Fraction} {n : ℕ} (p : At d x n) where
-  none : (a : ℕ) → x .num ≡ negsuc a → n ≡ 0
-  none a e = eq-of-mul-eq-mul-right (x .den) (p .den-pos) n 0 (sym (p .at) ∙ ap (λ (z : ℤ). natural z * d) e ∙ zero-mul d ∙ sym (zero-mul (x .den)))
-
-  pub exact : Least0 x → Is d x n
-  exact z = record { d-pos = p .d-pos; den-pos = p .den-pos; is = ap (λ (t : ℤ). t *ℤ pos d) z ∙ ap pos (p .at) }
-
-  pub above-zero : 0 < n → Is d x n
-  above-zero h = elim (sign (x .num)) [ inl z ↦ exact z | inr z ↦ absurd (omega (arith, none (z .0) (z .1))) ]
-
-  pub or-zero : Is d (orZero x) n
-  or-zero = elim (sign (x .num)) [
-    | inl z ↦ rw (ap (λ (t : ℤ). ltZ t (pos 0)) z ∙ le-ltb (natural (x .num)) 0 (omega arith)) (exact z)
-    | inr z ↦ rw (ap (λ (t : ℤ). ltZ t (pos 0)) (z .1), none (z .0) (z .1)) (record { d-pos = p .d-pos; den-pos = omega arith; is = ap pos (zero-mul d) })
-  ]
-
--- ---- two of them: order, least and greatest, difference
-
-module _ {d : ℕ} {x y : Fraction} {n m : ℕ} (p : At d x n) (q : At d y m) where
-  first : natural (x .num) * y .den * d ≡ n * (x .den * y .den)
-  first = mul-right-comm (natural (x .num)) (y .den) d ∙ ap (λ (t : ℕ). t * y .den) (p .at) ∙ mul-assoc n (x .den) (y .den)
-
-  second : natural (y .num) * x .den * d ≡ m * (x .den * y .den)
-  second =
-      mul-right-comm (natural (y .num)) (x .den) d ∙ ap (λ (t : ℕ). t * x .den) (q .at) ∙ mul-right-comm m (y .den) (x .den) ∙ mul-assoc m (x .den) (y .den)
-
-  in-order : natural (x .num) * y .den ≤ natural (y .num) * x .den → n ≤ m
-  in-order l = le-of-mul-le-mul-right {m = n} {n = m} {k = x .den * y .den} (omega (arith, first, second, mul-le-mul-right d l)) (mul-pos (p .den-pos) (q .den-pos))
-
-  from-order : n ≤ m → natural (x .num) * y .den ≤ natural (y .num) * x .den
-  from-order l = le-of-mul-le-mul-right {k = d} (omega (arith, first, second, mul-le-mul-right (x .den * y .den) l)) (p .d-pos)
-
-  order : x ≤ᶠ y ≡ true → n ≤ m
-  order h = in-order (below x y h)
-
-  -- where y is not below 0 the order is that of n and m
-  pub le-at : Least0 y → x ≤ᶠ y ≡ leb n m
-  le-at z = elim (sign (x .num)) [
-    | inl z′ ↦ put z′ ∙ leb-same (natural (x .num) * y .den) (natural (y .num) * x .den) n m in-order from-order
-    | inr z′ ↦ put (z′ .1) ∙ low-times (z′ .0) (y .den) (natural (y .num) * x .den) ∙ sym (le-leb n m (omega (arith, none p (z′ .0) (z′ .1))))
-  ]
-    where
-      put : {a : ℤ} → x .num ≡ a → x ≤ᶠ y ≡ leZ (a *ℤ pos (y .den)) (pos (natural (y .num)) *ℤ pos (x .den))
-      put e = ap₂ (λ (a c : ℤ). leZ (a *ℤ pos (y .den)) (c *ℤ pos (x .den))) e z
-
-  pub minus-at : Least0 y → At d (minus x y) (n - m)
-  minus-at z = record {
-    d-pos = p .d-pos;
-    den-pos = mul-pos (p .den-pos) (q .den-pos);
-    at =
-        ap (λ (t : ℕ). t * d)
-        (ap (λ (c : ℤ). natural (x .num *ℤ pos (y .den) -ℤ c *ℤ pos (x .den))) z
-        ∙ natural-minus (x .num *ℤ pos (y .den)) (natural (y .num) * x .den)
-        ∙ ap (λ (t : ℕ). t - natural (y .num) * x .den) (natural-mul (x .num) (y .den)))
-        ∙ sub-times (natural (x .num) * y .den) (natural (y .num) * x .den) d
-        ∙ ap₂ _-_ first second
-        ∙ sym (sub-times n m (x .den * y .den));
-  }
-
-module _ {d : ℕ} {x y : Fraction} {n m : ℕ} (p : At d x n) (q : At d y m) where
-  pub lesser-at : At d (lesser x y) (min n m)
-  lesser-at = elim (tested (x ≤ᶠ y)) [
-    | inl h ↦ rw (h, min-eq-left (order p q h)) p
-    | inr h ↦ rw (h, min-eq-right (order q p (not-le (x .num *ℤ pos (y .den)) (y .num *ℤ pos (x .den)) h))) q
-  ]
-
-  pub greater-at : At d (greater x y) (max n m)
-  greater-at = elim (tested (x ≤ᶠ y)) [
-    | inl h ↦ rw (h, max-eq-right (order p q h)) q
-    | inr h ↦ rw (h, max-eq-left (order q p (not-le (x .num *ℤ pos (y .den)) (y .num *ℤ pos (x .den)) h))) p
-  ]
-
-  pub lt-at : Least0 x → x <ᶠ y ≡ ltb n m
-  lt-at z = lt-le (x .num *ℤ pos (y .den)) (y .num *ℤ pos (x .den)) ∙ ap not (le-at q p z) ∙ sym (lt-not-le n m)
-
--- strictly between, from a fraction on that is not below 0
-pub between-at : {d : ℕ} {x y z : Fraction} {n m k : ℕ} → At d x n → At d y m → At d z k → Least0 x → ((x <ᶠ y) && (y <ᶠ z)) ≡ (ltb n m && ltb m k)
-between-at {d} {x} {y} {z} {n} {m} {k} p q s o = elim (sign (y .num)) [
-  | inl a ↦ ap₂ _&&_ (lt-at p q o) (lt-at q s a)
-  | inr a ↦ let off : ltb n m ≡ false = le-ltb n m (omega (arith, none q (a .0) (a .1))) in rw (lt-at p q o, off)
-]
-
--- ---- sum and multiple
+pub none-is : {d : ℕ} → 0 < d → Is d (whole 0) 0
+none-is {d} h = record { d-pos = h; den-pos = omega arith; is = ap pos (zero-mul d) }
 
 module _ {d : ℕ} {x : Fraction} {n : ℕ} (p : Is d x n) where
   pub at : natural (x .num) * d ≡ n * x .den
@@ -226,11 +137,100 @@ module _ {d : ℕ} {x : Fraction} {n : ℕ} (p : Is d x n) where
         ∙ ap pos (mul-right-comm (natural (x .num)) k d ∙ ap (λ (t : ℕ). t * k) at ∙ mul-right-comm n (x .den) k);
   }
 
+module _ {d : ℕ} {x : Fraction} {n : ℕ} (p : At d x n) where
+  none : (a : ℕ) → x .num ≡ negsuc a → n ≡ 0
+  none a e = eq-of-mul-eq-mul-right (x .den) (p .den-pos) n 0 (sym (p .at) ∙ ap (λ (z : ℤ). natural z * d) e ∙ zero-mul d ∙ sym (zero-mul (x .den)))
+
+  exact : Least0 x → Is d x n
+  exact z = record { d-pos = p .d-pos; den-pos = p .den-pos; is = ap (λ (t : ℤ). t *ℤ pos d) z ∙ ap pos (p .at) }
+
+  pub above-zero : 0 < n → Is d x n
+  above-zero h = elim (sign (x .num)) [ inl z ↦ exact z | inr z ↦ absurd (omega (arith, none (z .0) (z .1))) ]
+
+  pub or-zero : Is d (orZero x) n
+  or-zero = elim (sign (x .num)) [
+    | inl z ↦ rw (ap (λ (t : ℤ). ltZ t (pos 0)) z ∙ le-ltb (natural (x .num)) 0 (omega arith)) (exact z)
+    | inr z ↦ rw (ap (λ (t : ℤ). ltZ t (pos 0)) (z .1), none (z .0) (z .1)) (none-is (p .d-pos))
+  ]
+
+-- ---- two of them
+
+across : {d : ℕ} {x y : Fraction} {n m : ℕ} → At d x n → At d y m → natural (x .num) * y .den * d ≡ n * (x .den * y .den)
+across {d} {x} {y} {n} p q = mul-right-comm (natural (x .num)) (y .den) d ∙ ap (λ (t : ℕ). t * y .den) (p .at) ∙ mul-assoc n (x .den) (y .den)
+
+module _ {d : ℕ} {x y : Fraction} {n m : ℕ} (p : At d x n) (q : At d y m) where
+  across-too : natural (y .num) * x .den * d ≡ m * (x .den * y .den)
+  across-too = across q p ∙ ap (λ (t : ℕ). m * t) (mul-comm (y .den) (x .den))
+
+  in-order : natural (x .num) * y .den ≤ natural (y .num) * x .den → n ≤ m
+  in-order l = le-of-mul-le-mul-right {m = n} {n = m} {k = x .den * y .den} (omega (arith, across p q, across-too, mul-le-mul-right d l)) (mul-pos (p .den-pos) (q .den-pos))
+
+  from-order : n ≤ m → natural (x .num) * y .den ≤ natural (y .num) * x .den
+  from-order l = le-of-mul-le-mul-right {k = d} (omega (arith, across p q, across-too, mul-le-mul-right (x .den * y .den) l)) (p .d-pos)
+
+  order : x ≤ᶠ y ≡ true → n ≤ m
+  order h = in-order (below x y h)
+
+module _ {d : ℕ} {x y : Fraction} {n m : ℕ} (p : At d x n) (q : At d y m) where
+  pub lesser-at : At d (lesser x y) (min n m)
+  lesser-at = elim (tested (x ≤ᶠ y)) [
+    | inl h ↦ rw (h, min-eq-left (order p q h)) p
+    | inr h ↦ rw (h, min-eq-right (order q p (not-le (x .num *ℤ pos (y .den)) (y .num *ℤ pos (x .den)) h))) q
+  ]
+
+  pub greater-at : At d (greater x y) (max n m)
+  greater-at = elim (tested (x ≤ᶠ y)) [
+    | inl h ↦ rw (h, max-eq-right (order p q h)) q
+    | inr h ↦ rw (h, max-eq-left (order q p (not-le (x .num *ℤ pos (y .den)) (y .num *ℤ pos (x .den)) h))) p
+  ]
+
+-- the second is not below 0
+module _ {d : ℕ} {x y : Fraction} {n m : ℕ} (p : At d x n) (q : Is d y m) where
+  pub le-at : x ≤ᶠ y ≡ leb n m
+  le-at = elim (sign (x .num)) [
+    | inl z ↦ put z ∙ leb-same (natural (x .num) * y .den) (natural (y .num) * x .den) n m (in-order p (as-at q)) (from-order p (as-at q))
+    | inr z ↦ put (z .1) ∙ low-times (z .0) (y .den) (natural (y .num) * x .den) ∙ sym (le-leb n m (omega (arith, none p (z .0) (z .1))))
+  ]
+    where
+      put : {a : ℤ} → x .num ≡ a → x ≤ᶠ y ≡ leZ (a *ℤ pos (y .den)) (pos (natural (y .num)) *ℤ pos (x .den))
+      put e = ap₂ (λ (a c : ℤ). leZ (a *ℤ pos (y .den)) (c *ℤ pos (x .den))) e (least0 q)
+
+  pub greater-is : Is d (greater x y) (max n m)
+  greater-is = elim (decLe n m) [
+    | yes h ↦ rw (le-at ∙ le-leb n m h, max-eq-right h) q
+    | no h ↦ rw (le-at ∙ lt-leb n m (omega arith), max-eq-left {n = n} {m = m} (omega arith)) (above-zero p (omega arith))
+  ]
+
+  pub minus-at : At d (minus x y) (n - m)
+  minus-at = record {
+    d-pos = p .d-pos;
+    den-pos = mul-pos (p .den-pos) (q .den-pos);
+    at =
+        ap (λ (t : ℕ). t * d)
+        (ap (λ (c : ℤ). natural (x .num *ℤ pos (y .den) -ℤ c *ℤ pos (x .den))) (least0 q)
+        ∙ natural-minus (x .num *ℤ pos (y .den)) (natural (y .num) * x .den)
+        ∙ ap (λ (t : ℕ). t - natural (y .num) * x .den) (natural-mul (x .num) (y .den)))
+        ∙ sub-times (natural (x .num) * y .den) (natural (y .num) * x .den) d
+        ∙ ap₂ _-_ (across p (as-at q)) (across-too p (as-at q))
+        ∙ sym (sub-times n m (x .den * y .den));
+  }
+
+lt-at : {d : ℕ} {x y : Fraction} {n m : ℕ} → Is d x n → At d y m → x <ᶠ y ≡ ltb n m
+lt-at {d} {x} {y} {n} {m} p q = lt-le (x .num *ℤ pos (y .den)) (y .num *ℤ pos (x .den)) ∙ ap not (le-at q p) ∙ sym (lt-not-le n m)
+
+-- strictly between
+pub between-at : {d : ℕ} {x y z : Fraction} {n m k : ℕ} → Is d x n → At d y m → At d z k → ((x <ᶠ y) && (y <ᶠ z)) ≡ (ltb n m && ltb m k)
+between-at {d} {x} {y} {z} {n} {m} {k} p q s = elim (sign (y .num)) [
+  | inl a ↦ ap₂ _&&_ (lt-at p q) (lt-at (exact q a) s)
+  | inr a ↦ let off : ltb n m ≡ false = le-ltb n m (omega (arith, none q (a .0) (a .1))) in rw (lt-at p q, off)
+]
+
 pub plus-is : {d : ℕ} {x y : Fraction} {n m : ℕ} → Is d x n → Is d y m → Is d (plus x y) (n + m)
 plus-is {d} {x} {y} {n} {m} p q = record {
   d-pos = p .d-pos;
   den-pos = mul-pos (p .den-pos) (q .den-pos);
   is =
       ap₂ (λ (a c : ℤ). (a *ℤ pos (y .den) +ℤ c *ℤ pos (x .den)) *ℤ pos d) (least0 p) (least0 q)
-      ∙ ap pos (add-mul (natural (x .num) * y .den) (natural (y .num) * x .den) d ∙ ap₂ _+_ (first (as-at p) (as-at q)) (second (as-at p) (as-at q)) ∙ sym (add-mul n m (x .den * y .den)));
+      ∙ ap pos (add-mul (natural (x .num) * y .den) (natural (y .num) * x .den) d
+      ∙ ap₂ _+_ (across (as-at p) (as-at q)) (across-too (as-at p) (as-at q)) ∙ sym (add-mul n m (x .den * y .den)));
 }

@@ -3,7 +3,7 @@ use Prim.Native.Nat.{ℕ, _-_, _<_}
 use mathlib.Core.Path.{_≡_, sym, ap}
 use mathlib.Core.Bool.{Bool, false, _&&_, _||_, not}
 use mathlib.Core.Logic.{inl, inr}
-use native.Mathlib.Omega.{arith}
+use native.Mathlib.Nat.{sub-pos-iff-lt}
 use lib.Dec.{leb}
 use borrow.Author.Tests.{leb-false}
 use Rattle.axis.specs.Leg.{moving}
@@ -12,13 +12,13 @@ use Rattle.ray.specs.declared.Ray.{Ray}
 use Rattle.ray.specs.Length.{Side, leg, dOf, Volume, array, holds, start, stop, misses, spanOf, crosses}
 use Rattle.ray.proofs.Tests.{tested}
 use Rattle.ray.proofs.Fraction.{_≤ᶠ_, _<ᶠ_, minus, Is, above-zero, le-at, between-at, minus-at}
-use Rattle.ray.proofs.Formula.{α, α-at, αmin, αmax, αmin-at, αmax-at, αmin-least0, αmax-is}
+use Rattle.ray.proofs.Formula.{α, α-at, αmin, αmax, αmin-is, αmax-at, αmax-is}
 
 module _ (v : Volume) (r : Ray) where
   -- A miss is αmax ≤ αmin, or a still coordinate that the array does not hold.
   pub misses-are : misses v r ≡ ((αmax r (array v) ≤ᶠ αmin r (array v)) || not (holds r (array v)))
   unfolding misses
-  misses-are = ap (λ (t : Bool). t || not (holds r (array v))) (sym (le-at (αmax-at r (array v)) (αmin-at r (array v)) (αmin-least0 r (array v))))
+  misses-are = ap (λ (t : Bool). t || not (holds r (array v))) (sym (le-at (αmax-at r (array v)) (αmin-is r (array v))))
 
   module _ (hit : misses v r ≡ false) where
     pub ahead : start r (array v) < stop r (array v)
@@ -32,16 +32,13 @@ module _ (v : Volume) (r : Ray) where
     pub span-hit : Is (dOf r) (minus (αmax r (array v)) (αmin r (array v))) (spanOf v r)
     unfolding spanOf
     span-hit = rw hit
-        (above-zero (minus-at (αmax-at r (array v)) (αmin-at r (array v)) (αmin-least0 r (array v))) (some (stop r (array v)) (start r (array v)) ahead))
-      where
-        some : (a b : ℕ) → b < a → 0 < a - b
-        some a b h = omega arith
+        (above-zero (minus-at (αmax-at r (array v)) (αmin-is r (array v))) (sub-pos-iff-lt .1 ahead))
 
   -- A plane is crossed where its α lies strictly between αmin and αmax.
   pub crosses-are : (s : Side) (i : ℕ)
       → crosses v r s i ≡ (moving (leg r s) && ((αmin r (array v) <ᶠ α (leg r s) (v s .at i)) && (α (leg r s) (v s .at i) <ᶠ αmax r (array v))))
   unfolding crosses
   crosses-are s i = elim (tested (moving (leg r s))) [
-    | inl h ↦ rw h (sym (between-at (αmin-at r (array v)) (α-at r s (v s .at i) h) (αmax-at r (array v)) (αmin-least0 r (array v))))
+    | inl h ↦ rw h (sym (between-at (αmin-is r (array v)) (α-at r s (v s .at i) h) (αmax-at r (array v))))
     | inr h ↦ rw h
   ]

@@ -1,5 +1,5 @@
 -- The least and the greatest of two numbers, seen through a function that rises or falls. Assumes nothing.
-use Prim.Native.Nat.{ℕ, _-_, _*_, _≤_, min, max}
+use Prim.Native.Nat.{ℕ, _-_, _*_, _≤_, _<_, min, max}
 use mathlib.Core.Path.{_≡_, refl, sym, ap, ap₂, _∙_}
 use mathlib.Core.Bool.{Bool, true, false, cond}
 use native.Mathlib.Nat.{min-comm, max-comm, min-eq-left, min-eq-right, max-eq-left, max-eq-right, mul-le-mul-right, mul-sub, mul-comm}
@@ -9,6 +9,9 @@ use Rattle.ray.specs.Length.{Side, X, Y, Z}
 
 abbrev pub Rises : (ℕ → ℕ) → Type 0
 Rises h = (x y : ℕ) → x ≤ y → h x ≤ h y
+
+pub rises-back : {h : ℕ → ℕ} → Rises h → (x y : ℕ) → h x < h y → x < y
+rises-back rises x y l = elim (decLe y x) [ yes k ↦ absurd (omega (arith, rises y x k)) | no k ↦ omega arith ]
 
 abbrev pub Falls : (ℕ → ℕ) → Type 0
 Falls h = (x y : ℕ) → x ≤ y → h y ≤ h x

@@ -1,12 +1,11 @@
 -- One leg of a ray in numbers without a sign: it goes up, down or not at all. Assumes nothing.
-use Prim.Native.Nat.{ℕ, _+_, _-_, _≤_, _<_, min}
+use Prim.Native.Nat.{ℕ, _+_, _-_, _<_, min}
 use mathlib.Core.Path.{_≡_}
 use mathlib.Core.Bool.{Bool, true, false}
 use mathlib.Core.Logic.{inl, inr}
 use native.Mathlib.Omega.{arith}
 use native.Mathlib.Decide.{decLt}
 use lib.IntN.{ℤ, natAbs}
-use lib.Signed.{ltZ}
 use Rattle.axis.specs.Leg.{Leg, moving, factor, run, Slab, held}
 use Rattle.axis.proofs.Flag.{off-or-on}
 use Rattle.ray.proofs.Tests.{tested}
@@ -48,16 +47,10 @@ pub record Going (k : ℕ) (w : Way) (l : Leg) : Type 0 where
   pub goes : Goes w (shift k (l .p)) (shift k (l .q))
 
 module _ {k : ℕ} {l : Leg} where
-  ahead : {w : Way} → Going k w l → shift k (l .p) < shift k (l .q) → ltZ (l .p) (l .q) ≡ true
-  ahead t = lt-yes k (l .p) (l .q) (t .low-p) (t .low-q)
-
-  not-ahead : {w : Way} → Going k w l → shift k (l .q) ≤ shift k (l .p) → ltZ (l .p) (l .q) ≡ false
-  not-ahead t = lt-no k (l .p) (l .q) (t .low-p) (t .low-q)
-
   pub moving-by : (w : Way) → Going k w l → moving l ≡ moves w
-  moving-by up t = rw (ahead t (t .goes))
-  moving-by down t = rw (not-ahead t (omega arith), lt-yes k (l .q) (l .p) (t .low-q) (t .low-p) (t .goes))
-  moving-by still t = rw (not-ahead t (omega arith), lt-no k (l .q) (l .p) (t .low-q) (t .low-p) (omega arith))
+  moving-by up t = rw (lt-yes k (l .p) (l .q) (t .low-p) (t .low-q) (t .goes))
+  moving-by down t = rw (lt-no k (l .p) (l .q) (t .low-p) (t .low-q) (omega arith), lt-yes k (l .q) (l .p) (t .low-q) (t .low-p) (t .goes))
+  moving-by still t = rw (lt-no k (l .p) (l .q) (t .low-p) (t .low-q) (omega arith), lt-no k (l .q) (l .p) (t .low-q) (t .low-p) (omega arith))
 
   pub factor-by : (w : Way) → Going k w l → factor l ≡ factorBy w (shift k (l .p)) (shift k (l .q))
   factor-by up t = rw (moving-by up t) (omega (arith, gap-shift k (l .q) (l .p) (t .low-q) (t .low-p)))
@@ -65,9 +58,9 @@ module _ {k : ℕ} {l : Leg} where
   factor-by still t = rw (moving-by still t)
 
   pub run-by : (c : ℤ) → Low k c → (w : Way) → Going k w l → run l c ≡ runBy w (shift k (l .p)) (shift k c)
-  run-by c hc up t = rw (ahead t (t .goes)) (above-shift k c (l .p) hc (t .low-p))
-  run-by c hc down t = rw (not-ahead t (omega arith)) (above-shift k (l .p) c (t .low-p) hc)
-  run-by c hc still t = rw (not-ahead t (omega arith)) (above-shift k (l .p) c (t .low-p) hc)
+  run-by c hc up t = rw (lt-yes k (l .p) (l .q) (t .low-p) (t .low-q) (t .goes)) (above-shift k c (l .p) hc (t .low-p))
+  run-by c hc down t = rw (lt-no k (l .p) (l .q) (t .low-p) (t .low-q) (omega arith)) (above-shift k (l .p) c (t .low-p) hc)
+  run-by c hc still t = rw (lt-no k (l .p) (l .q) (t .low-p) (t .low-q) (omega arith)) (above-shift k (l .p) c (t .low-p) hc)
 
 -- how far along its leg a ray has come at the place c, at most its whole leg
 abbrev pub passed : Leg → ℤ → ℕ
