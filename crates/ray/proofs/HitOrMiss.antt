@@ -1,5 +1,5 @@
 -- Hit and miss, span and planes crossed (RULES 4), told by the fractions αmin and αmax of the array. Assumes nothing.
-use Prim.Native.Nat.{ℕ, _-_, _<_}
+use Prim.Native.Nat.{ℕ, _<_}
 use mathlib.Core.Path.{_≡_, sym, ap}
 use mathlib.Core.Bool.{Bool, false, _&&_, _||_, not}
 use mathlib.Core.Logic.{inl, inr}
