@@ -1,6 +1,6 @@
 -- Voxels that a ray meets follow one another: it leaves the one before it enters the other, or as it does. Of a volume it is only
 -- used that its planes do not fall. Assumes nothing.
-use Prim.Native.Nat.{ℕ, _+_, _*_, _≤_, _<_, min}
+use Prim.Native.Nat.{ℕ, _+_, _≤_, _<_}
 use mathlib.Core.Path.{_≡_, sym, ap}
 use mathlib.Core.Bool.{true, false, _&&_}
 use mathlib.Core.Logic.{_⊎_, inl, inr, ⊎-elim}
@@ -13,7 +13,7 @@ use Rattle.axis.specs.Leg.{moving, run, Slab, held}
 use Rattle.axis.proofs.Flag.{and-left, and-right}
 use Rattle.ray.specs.declared.Ray.{Ray}
 use Rattle.ray.specs.Length.{Side, X, Y, Z, leg, dOf, rest, Volume, count, index, voxel, holds, start, stop, partOf}
-use Rattle.ray.proofs.Through.{min-cap-rises, times-rises}
+use Rattle.ray.proofs.Through.{cap-rises}
 use Rattle.ray.proofs.Tests.{tested}
 use Rattle.ray.proofs.Told.{le-shift, lt-shift, level, natural-rises, natural-falls}
 use Rattle.ray.proofs.Planes.{Rise, rise-to}
@@ -24,16 +24,13 @@ use Rattle.ray.proofs.Capped.{on, enter, leave, begin, begin-sides, sto
 -- ---- one side
 
 module _ (r : Ray) (s : Side) where
-  cap-le : (x y : ℕ) → x ≤ y → min (dOf r) (x * rest r s) ≤ min (dOf r) (y * rest r s)
-  cap-le x y h = min-cap-rises (dOf r) (x * rest r s) (y * rest r s) (times-rises (rest r s) x y h)
-
   on-rises : (c c′ : ℤ) → ltZ (leg r s .p) (leg r s .q) ≡ true → leZ c c′ ≡ true → on r s c ≤ on r s c′
   unfolding on
-  on-rises c c′ u h = cap-le (run (leg r s) c) (run (leg r s) c′) (rw u (natural-rises c c′ (leg r s .p) h))
+  on-rises c c′ u h = cap-rises (dOf r) (rest r s) (run (leg r s) c) (run (leg r s) c′) (rw u (natural-rises c c′ (leg r s .p) h))
 
   on-falls : (c c′ : ℤ) → ltZ (leg r s .p) (leg r s .q) ≡ false → leZ c c′ ≡ true → on r s c′ ≤ on r s c
   unfolding on
-  on-falls c c′ u h = cap-le (run (leg r s) c′) (run (leg r s) c) (rw u (natural-falls c c′ (leg r s .p) h))
+  on-falls c c′ u h = cap-rises (dOf r) (rest r s) (run (leg r s) c′) (run (leg r s) c) (rw u (natural-falls c c′ (leg r s .p) h))
 
   -- of two slabs, t below t′, one is left before the other is entered
   module _ (t t′ : Slab) (h : leZ (t .lo) (t .hi) ≡ true) (gap : leZ (t .hi) (t′ .lo) ≡ true) (h′ : leZ (t′ .lo) (t′ .hi) ≡ true) where

@@ -2,15 +2,15 @@
 -- function that rises or falls. Assumes nothing.
 use Prim.Native.Nat.{ℕ, _-_, _*_, _≤_, _<_, min, max}
 use mathlib.Core.Path.{_≡_, refl, sym, ap, _∙_}
-use mathlib.Core.Bool.{Bool, true, false, cond}
+use mathlib.Core.Bool.{true, false, cond}
 use mathlib.Core.Logic.{inl, inr}
-use native.Mathlib.Nat.{mul-assoc, mul-comm, mul-left-comm, one-mul, mul-pos, min-zero, min-le-left}
+use native.Mathlib.Nat.{mul-assoc, mul-comm, mul-left-comm, one-mul, mul-pos, min-zero, min-eq-left, min-le-left, le-of-eq}
 use native.Mathlib.Omega.{arith}
 use lib.IntN.{ℤ}
 use Rattle.axis.specs.Leg.{moving, factor, run, Slab, held, enters, leaves}
 use Rattle.ray.specs.declared.Ray.{Ray}
 use Rattle.ray.specs.Length.{Side, X, Y, Z, leg, dOf, rest, Volume, voxel, holds, start, stop, partOf}
-use Rattle.ray.proofs.Through.{Rises, over, max-rises, min-rises, sides-as, either-as, min-cap-rises, times-rises}
+use Rattle.ray.proofs.Through.{Rises, over, max-rises, min-rises, sides-as, either-as, min-cap-rises, times-rises, cap-rises}
 use Rattle.ray.proofs.Tests.{tested}
 use Rattle.ray.proofs.Way.{passed, factor-pos}
 
@@ -48,14 +48,6 @@ rest-pos r Z = mul-pos (factor-pos (leg r X)) (factor-pos (leg r Y))
 pub d-pos : (r : Ray) → 0 < dOf r
 d-pos r = mul-pos (factor-pos (leg r X)) (rest-pos r X)
 
-cap-in : (t : Bool) (d e x y : ℕ) → min d (cond t (min x y * e) 0) ≡ cond t (min (min d (x * e)) (min d (y * e))) 0
-cap-in true d e x y = sym (min-rises (λ z. min d (z * e)) (λ a b l. min-cap-rises d (a * e) (b * e) (times-rises e a b l)) x y)
-cap-in false d e x y = min-zero d
-
-cap-out : (t : Bool) (d e x y : ℕ) → (t ≡ false → d ≡ e) → min d (cond t (max x y * e) e) ≡ cond t (max (min d (x * e)) (min d (y * e))) d
-cap-out true d e x y h = sym (max-rises (λ z. min d (z * e)) (λ a b l. min-cap-rises d (a * e) (b * e) (times-rises e a b l)) x y)
-cap-out false d e x y h = omega (arith, h refl)
-
 less : (d x y : ℕ) → x ≤ d → x - y ≡ x - min d y
 less d x y h = omega arith
 
@@ -75,11 +67,17 @@ module _ (r : Ray) where
 
   cap-enter : (s : Side) (t : Slab) → min (dOf r) (enters (rest r s) (leg r s) t) ≡ enter r s t
   unfolding enter on
-  cap-enter s t = cap-in (moving (leg r s)) (dOf r) (rest r s) (run (leg r s) (t .lo)) (run (leg r s) (t .hi))
+  cap-enter s t = elim (tested (moving (leg r s))) [
+    | inl h ↦ rw h (sym (min-rises (λ x. min (dOf r) (x * rest r s)) (cap-rises (dOf r) (rest r s)) (run (leg r s) (t .lo)) (run (leg r s) (t .hi))))
+    | inr h ↦ rw h (min-zero (dOf r))
+  ]
 
   cap-leave : (s : Side) (t : Slab) → min (dOf r) (leaves (rest r s) (leg r s) t) ≡ leave r s t
   unfolding leave on
-  cap-leave s t = cap-out (moving (leg r s)) (dOf r) (rest r s) (run (leg r s) (t .lo)) (run (leg r s) (t .hi)) (still-rest s)
+  cap-leave s t = elim (tested (moving (leg r s))) [
+    | inl h ↦ rw h (sym (max-rises (λ x. min (dOf r) (x * rest r s)) (cap-rises (dOf r) (rest r s)) (run (leg r s) (t .lo)) (run (leg r s) (t .hi))))
+    | inr h ↦ rw h (min-eq-left (le-of-eq (still-rest s h)))
+  ]
 
   pub begin-sides : (b : Side → Slab) → begin r b ≡ over max (λ s. enter r s (b s))
   begin-sides b = sides-as (min (dOf r)) (λ n. n) max max max (max-rises (min (dOf r)) (min-cap-rises (dOf r))) (λ x y. refl) _ _ (λ s. cap-enter s (b s))

@@ -90,15 +90,13 @@ module _ {n d : ℕ} {l : Leg} {m : ℤ} (cut : CutAt n d l m) where
     lengths : moving l ≡ true → (w : Way) → Going k w l
         → (factor (before l m) + factor (after l m) ≡ factor l) × (d * factor (before l m) ≡ n * factor l) × ((c : ℤ) → Low k c → run (after l m) c ≡ run l c - factor (before l m))
     lengths moved up t =
-        let i = goes up t in
-        let f = factor-by up (first up t) in
-        let e = factor-by up t in
-        (omega (arith, factor-by up (last up t)), rw (f, e) (above t), λ c hc. omega (arith, run-by c hc up (last up t), run-by c hc up t))
+        let f = first up t in
+        let g = last up t in
+        (omega (arith, factor-by up f, factor-by up g, factor-by up t), rw (factor-by up f, factor-by up t) (above t), λ c hc. omega (arith, factor-by up f, run-by c hc up g, run-by c hc up t))
     lengths moved down t =
-        let i = goes down t in
-        let f = factor-by down (first down t) in
-        let e = factor-by down t in
-        (omega (arith, factor-by down (last down t)), rw (f, e) (below t), λ c hc. omega (arith, run-by c hc down (last down t), run-by c hc down t))
+        let f = first down t in
+        let g = last down t in
+        (omega (arith, factor-by down f, factor-by down g, factor-by down t), rw (factor-by down f, factor-by down t) (below t), λ c hc. omega (arith, factor-by down f, run-by c hc down g, run-by c hc down t))
     lengths moved still t = off-or-on (moving l) moved (moving-by still t)
 
   pub ordered : ((leZ (l .p) m ≡ true) × (leZ m (l .q) ≡ true)) ⊎ ((leZ (l .q) m ≡ true) × (leZ m (l .p) ≡ true))

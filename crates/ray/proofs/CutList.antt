@@ -1,8 +1,8 @@
 -- Demand 3, a ray cut at a point of whole coordinates: its list is its pieces' lists joined. Assumes nothing.
 use Prim.Native.Nat.{ℕ, zero, suc, _+_, _-_, _*_, _≤_, _<_, min}
-use mathlib.Core.Path.{_≡_, refl, sym, ap}
+use mathlib.Core.Path.{_≡_, sym, ap}
 use mathlib.Core.Bool.{true}
-use mathlib.Core.List.{List, [], _∷_, List·Memᴰ, List·Memᴰ·head, List·Memᴰ·tail}
+use mathlib.Core.List.{List, [], List·Memᴰ}
 use mathlib.Core.Logic.{_⊎_, inl, inr, ⊎-elim}
 use native.Mathlib.Nat.{zero-mul, mul-pos, lt-of-lt-of-le}
 use native.Mathlib.Omega.{arith}
@@ -15,7 +15,7 @@ use Rattle.ray.specs.declared.Ray.{Ray}
 use Rattle.ray.specs.Length.{Side, leg, dOf, Volume, volume, count, voxel, stop, partOf, listOf, sumOf}
 use Rattle.ray.specs.Codes.{endRows}
 use Rattle.ray.proofs.Through.{rises-back}
-use Rattle.ray.proofs.Rising.{Rising}
+use Rattle.ray.proofs.Rising.{Rising, rising-as}
 use Rattle.ray.proofs.Listing.{Listed, starts, list-sound, list-whole, list-listed, list-is}
 use Rattle.ray.proofs.Capped.{part, part-voxel, d-pos, met}
 use Rattle.ray.proofs.Planes.{Rise, grid-rise}
@@ -24,13 +24,6 @@ use Rattle.ray.proofs.CutBox.{Between, near, far, scaled-order, Piece, 
 use Rattle.ray.proofs.Cut.{difference, Quotient, Mean, differences, voxel-cut, sum-cut, same-quotient, same-quotient-far}
 use Rattle.ray.proofs.Ends.{moves-on}
 use Rattle.ray.proofs.Seam.{joined, joined-cases, joined-all, joined-rising, Below}
-
-rising-as : (f g : ℕ → ℕ) (xs : List ℕ) → ((a b : ℕ) → List·Memᴰ a xs → List·Memᴰ b xs → f a < f b → g a < g b) → Rising f xs → Rising g xs
-rising-as f g [] h r = tt
-rising-as f g (x ∷ xs) h r = (
-  (λ y m. h x y (List·Memᴰ·head refl) (List·Memᴰ·tail m) (r .0 y m)),
-  rising-as f g xs (λ a b m n. h a b (List·Memᴰ·tail m) (List·Memᴰ·tail n)) (r .1),
-)
 
 some-piece : (p k pn c df pf e dn : ℕ) → 0 < p → 0 < k → p * k ≡ pn * c * df + pf * e * dn → (0 < pn) ⊎ (0 < pf)
 some-piece p k (suc pn) c df pf e dn hp hk h = inl (omega arith)

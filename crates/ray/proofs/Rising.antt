@@ -39,6 +39,14 @@ module _ (f : ℕ → ℕ) where
   rising-snoc xs v r below =
       rising-append xs (v ∷ []) r ((λ y m. absurd (List·Memᴰ·not-nil m)), tt) (λ x y m n. omega (arith, below x m, ap f (List·Memᴰ·eq-of-singleton n)))
 
+-- by another key that keeps its order
+pub rising-as : (f g : ℕ → ℕ) (xs : List ℕ) → ((a b : ℕ) → List·Memᴰ a xs → List·Memᴰ b xs → f a < f b → g a < g b) → Rising f xs → Rising g xs
+rising-as f g [] h r = tt
+rising-as f g (x ∷ xs) h r = (
+  (λ y m. h x y (List·Memᴰ·head refl) (List·Memᴰ·tail m) (r .0 y m)),
+  rising-as f g xs (λ a b m n. h a b (List·Memᴰ·tail m) (List·Memᴰ·tail n)) (r .1),
+)
+
 -- a list turned round has the same members
 pub mem-turned : (xs : List ℕ) (v : ℕ) → List·Memᴰ v xs → List·Memᴰ v (reverse xs)
 mem-turned [] v m = m

@@ -63,5 +63,8 @@ min-cap-rises d x y l = omega arith
 pub times-rises : (c : ℕ) → Rises (λ x. x * c)
 times-rises c x y l = mul-le-mul-right c l
 
+pub cap-rises : (d c : ℕ) → Rises (λ x. min d (x * c))
+cap-rises d c x y l = min-cap-rises d (x * c) (y * c) (times-rises c x y l)
+
 pub sub-times : (x y c : ℕ) → (x - y) * c ≡ x * c - y * c
 sub-times x y c = mul-comm (x - y) c ∙ mul-sub c x y ∙ rw (mul-comm c x, mul-comm c y)
