@@ -28,26 +28,26 @@ pub record SoFar (starts part : ℕ → ℕ) (count t : ℕ) (vs : List ℕ) : T
 abbrev pub Apart : (ℕ → ℕ) → (ℕ → ℕ) → ℕ → Type 0
 Apart starts part count = (m w : ℕ) → m < count → w < count → 0 < part m → 0 < part w → starts m ≡ starts w → m ≡ w
 
-module _ (starts part : ℕ → ℕ) (count : ℕ) where
-  pub none-yet : (t : ℕ) → ((m : ℕ) → m < count → 0 < part m → t ≤ starts m) → SoFar starts part count t []
-  none-yet t h = record {
+module _ {starts part : ℕ → ℕ} {count : ℕ} where
+  pub none-yet : {t : ℕ} → ((m : ℕ) → m < count → 0 < part m → t ≤ starts m) → SoFar starts part count t []
+  none-yet h = record {
     sound = λ m k. absurd (List·Memᴰ·not-nil k);
     whole = λ m i p s. absurd (omega (arith, h m i p));
     rising = tt;
   }
 
-  pub all-found : (t : ℕ) (vs : List ℕ) → ((m : ℕ) → m < count → 0 < part m → starts m < t) → SoFar starts part count t vs → Listed starts part count vs
-  all-found t vs h l = record {
+  pub all-found : {t : ℕ} {vs : List ℕ} → ((m : ℕ) → m < count → 0 < part m → starts m < t) → SoFar starts part count t vs → Listed starts part count vs
+  all-found h l = record {
     sound = λ m k. (l .sound m k .0, l .sound m k .1);
     whole = λ m i p. l .whole m i p (h m i p);
     rising = l .rising;
   }
 
   -- v alone starts at t or later and before u
-  pub one-more : (t u v : ℕ) (vs : List ℕ) → SoFar starts part count t vs → v < count → 0 < part v → t ≤ starts v → starts v < u
+  pub one-more : {t u v : ℕ} {vs : List ℕ} → SoFar starts part count t vs → v < count → 0 < part v → t ≤ starts v → starts v < u
       → ((m : ℕ) → m < count → 0 < part m → t ≤ starts m → starts m < u → m ≡ v)
       → SoFar starts part count u (vs ++ (v ∷ []))
-  one-more t u v vs l i p s before only = record {
+  one-more {t} {u} {v} {vs} l i p s before only = record {
     sound = λ m h. ⊎-elim (λ k. (l .sound m k .0, l .sound m k .1, omega (arith, l .sound m k .2)))
         (λ k. subst (λ (w : ℕ). (w < count) × (0 < part w) × (starts w < u)) (sym (List·Memᴰ·eq-of-singleton k)) (i, p, before))
         (List·Memᴰ·append-cases vs h);

@@ -61,8 +61,8 @@ module _ (s : Scene) (able : Able s) (t : Strides) (paced : Paced s t) where
     list-last b h vs so =
         let p = part-last s able w at on h in
         rw (number-kept s able w at on)
-        (all-found _ _ _ to _ starts-before
-        (one-more (starts (vol s) (ray s)) (partOf (vol s) (ray s)) (count (vol s)) (w .t) to (number (vol s) at) vs so (here-below s able w at on) (omega arith)
+        (all-found starts-before
+        (one-more so (here-below s able w at on) (omega arith)
         (omega (arith, here-start s able w at on)) (omega (arith, here-start s able w at on))
         (λ m i q a c. here-only s able w at on m i q a (omega arith))))
 
@@ -74,7 +74,7 @@ module _ (s : Scene) (able : Able s) (t : Strides) (paced : Paced s t) where
         rw (number-kept s able w at on)
         (rw append-assoc at (rest (vs ++ (number (vol s) at ∷ []))
         (rw (step-tick t to w)
-        (one-more (starts (vol s) (ray s)) (partOf (vol s) (ray s)) (count (vol s)) (w .t) (soonest w) (number (vol s) at) vs so (here-below s able w at on) (omega arith)
+        (one-more so (here-below s able w at on) (omega arith)
         (omega (arith, here-start s able w at on)) (omega (arith, here-start s able w at on))
         (λ m i q a c. here-only s able w at on m i q a c)))))
 
@@ -82,7 +82,7 @@ module _ (s : Scene) (able : Able s) (t : Strides) (paced : Paced s t) where
   found-list w at on f e =
       list-is (vol s) (ray s) (starts-apart (vol s) (scene-rise s) (ray s)) (voxels (entries t to w))
       (walk-all (λ w at es. (vs : List ℕ) → Until (w .t) vs → Ends (vs ++ voxels es)) (λ w at on b h. list-last w at on b h) (λ w at on h es. list-more w at on h es)
-      w at on f [] (none-yet _ _ _ (w .t) (λ m i p. omega (arith, start-late s able m i))))
+      w at on f [] (none-yet (λ m i p. omega (arith, start-late s able m i))))
 
   -- each with its part
   pub found-parts : (w : Walk) (at : Side → ℕ) → Walking s w at → Forward t to w → parts (entries t to w) ≡ map (partOf (vol s) (ray s)) (voxels (entries t to w))
