@@ -17,7 +17,7 @@ use Rattle.ray.proofs.Through.{cap-rises}
 use Rattle.ray.proofs.Tests.{tested}
 use Rattle.ray.proofs.Told.{le-shift, lt-shift, level, natural-rises, natural-falls}
 use Rattle.ray.proofs.Planes.{Rise, rise-to}
-use Rattle.ray.proofs.Listing.{Apart, starts}
+use Rattle.ray.proofs.Listing.{Apart, Has, starts}
 use Rattle.ray.proofs.Indices.{index-below, index-same}
 use Rattle.ray.proofs.Capped.{on, enter, leave, begin, begin-sides, stop-sides, part-voxel, Met, met}
 
@@ -78,10 +78,15 @@ module _ (r : Ray) (b : Side → Slab) where
   begin-side Z = rw (begin-sides r b) (le-trans (le-max-right (enter r Y (b Y)) _) (le-max-right (enter r X (b X)) _))
 
 module _ (v : Volume) (rise : Rise v) (r : Ray) where
+  met-in : (m : ℕ) → Has v r m → Met r (voxel v m)
+  met-in m h = met r (voxel v m) (rw (part-voxel v r m) at (h .1))
+
   -- m below w on a side
-  below-side : (m w : ℕ) → w < count v → Met r (voxel v m) → Met r (voxel v w) → (s : Side) → index v m s < index v w s → OneFirst v r m w
-  below-side m w hw mm mw s h =
-      let i : index v w s < v s .n = index-below v w hw s in
+  below-side : (m w : ℕ) → Has v r m → Has v r w → (s : Side) → index v m s < index v w s → OneFirst v r m w
+  below-side m w hm hw s h =
+      let i : index v w s < v s .n = index-below v w (hw .0) s in
+      let mm = met-in m hm in
+      let mw = met-in w hw in
       ⊎-elim
       (λ l. inl (le-trans (stop-side r (voxel v m) s) (le-trans l (rw (mw .begins) at (begin-side r (voxel v w) s)))))
       (λ l. inr (le-trans (stop-side r (voxel v w) s) (le-trans l (rw (mm .begins) at (begin-side r (voxel v m) s)))))
@@ -92,17 +97,11 @@ module _ (v : Volume) (rise : Rise v) (r : Ray) where
       (held-on r (voxel v m) (mm .held) s)
       (held-on r (voxel v w) (mw .held) s))
 
-  module _ (m w : ℕ) (hm : m < count v) (hw : w < count v) (pm : 0 < partOf v r m) (pw : 0 < partOf v r w) where
-    met-m : Met r (voxel v m)
-    met-m = met r (voxel v m) (rw (part-voxel v r m) at pm)
-
-    met-w : Met r (voxel v w)
-    met-w = met r (voxel v w) (rw (part-voxel v r w) at pw)
-
+  module _ (m w : ℕ) (hm : Has v r m) (hw : Has v r w) where
     side-apart : (s : Side) → (index v m s ≡ index v w s → ⊥) → OneFirst v r m w
     side-apart s h = elim (decLt (index v m s) (index v w s)) [
-      | yes l ↦ below-side m w hw met-m met-w s l
-      | no l ↦ ⊎-elim (λ a. inr a) (λ a. inl a) (below-side w m hm met-w met-m s (omega arith))
+      | yes l ↦ below-side m w hm hw s l
+      | no l ↦ ⊎-elim (λ a. inr a) (λ a. inl a) (below-side w m hw hm s (omega arith))
     ]
 
     -- two voxels with a part: one follows the other
@@ -123,13 +122,13 @@ module _ (v : Volume) (rise : Rise v) (r : Ray) where
     -- the one that starts first is left first
     pub follows : start r (voxel v m) < start r (voxel v w) → stop r (voxel v m) ≤ start r (voxel v w)
     follows h =
-        ⊎-elim (λ l. l) (λ l. absurd (lt-irrefl _ (lt-of-lt-of-le h (le-trans (le-of-lt (met-w .some)) l)))) (voxel-apart (λ e. lt-irrefl _ (lt-of-lt-of-le h (le-of-eq (ap (starts v r) (sym e))))))
+        ⊎-elim (λ l. l) (λ l. absurd (lt-irrefl _ (lt-of-lt-of-le h (le-trans (le-of-lt (met-in w hw .some)) l)))) (voxel-apart (λ e. lt-irrefl _ (lt-of-lt-of-le h (le-of-eq (ap (starts v r) (sym e))))))
 
   pub starts-apart : Apart (starts v r) (partOf v r) (count v)
   starts-apart m w hm hw pm pw e = elim (ℕ-discrete m w) [
     | yes k ↦ k
     | no k ↦ absurd (⊎-elim
-        (λ l. clash (starts v r m) (stop r (voxel v m)) (starts v r w) (met-m m w hm hw pm pw .some) l e)
-        (λ l. clash (starts v r w) (stop r (voxel v w)) (starts v r m) (met-w m w hm hw pm pw .some) l (sym e))
-        (voxel-apart m w hm hw pm pw k))
+        (λ l. clash (starts v r m) (stop r (voxel v m)) (starts v r w) (met-in m (hm, pm) .some) l e)
+        (λ l. clash (starts v r w) (stop r (voxel v w)) (starts v r m) (met-in w (hw, pw) .some) l (sym e))
+        (voxel-apart m w (hm, pm) (hw, pw) k))
   ]

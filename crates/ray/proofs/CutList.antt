@@ -66,7 +66,7 @@ module _ (v : Volume) (rise : Rise v) {r : Ray} {m : End} (between : Between r m
       ⊎-elim
       (λ l. lt-of-lt-of-le (met r (voxel v u) (nu .some) .some) l)
       (λ l. absurd (clash (starts v r u) (stop r (voxel v u)) (starts v r w) (stop r (voxel v w)) (upTo between o moves) (nu .ahead) (fw .ahead) l))
-      (voxel-apart v rise r u w lu lw (rw (part-voxel v r u) (nu .some)) (rw (part-voxel v r w) (fw .some)) h)
+      (voxel-apart v rise r u w (lu, rw (part-voxel v r u) (nu .some)) (lw, rw (part-voxel v r w) (fw .some)) h)
     where
       clash : (a a′ b b′ c : ℕ) → min c a < min c a′ → b - c < b′ - c → b′ ≤ a → ⊥
       clash a a′ b b′ c h k l = omega arith

@@ -65,6 +65,10 @@ module _ (v : Volume) (r : Ray) where
   abbrev pub starts : ℕ → ℕ
   starts m = start r (voxel v m)
 
+  -- a voxel that the ray meets
+  abbrev pub Has : ℕ → Type 0
+  Has m = (m < count v) × (0 < partOf v r m)
+
   list-to-sound : (n m : ℕ) → List·Memᴰ m (listTo v r n) → (m < n) × (0 < partOf v r m)
   unfolding listTo
   list-to-sound zero m h = absurd (List·Memᴰ·not-nil h)
@@ -96,7 +100,7 @@ module _ (v : Volume) (r : Ray) where
       ]
 
   -- members have a part, and whatever has one is a member, also where two start at once
-  pub list-sound : (m : ℕ) → List·Memᴰ m (listOf v r) → (m < count v) × (0 < partOf v r m)
+  pub list-sound : (m : ℕ) → List·Memᴰ m (listOf v r) → Has m
   unfolding listOf
   list-sound = list-to-sound (count v)
 

@@ -1,7 +1,7 @@
 -- Lists that rise strictly by a key: one such list for given members, and what appending and turning round do to it. Assumes nothing.
 use Prim.Native.Nat.{ℕ, _<_}
 use mathlib.Core.Path.{_≡_, refl, sym, ap}
-use mathlib.Core.List.{List, [], _∷_, _++_, reverse, reverse-cons, Memᴰ·append-left, Memᴰ·append-right, List·Memᴰ, List·Memᴰ·head, List·Memᴰ·tail, List·Memᴰ·append-cases, List·Memᴰ·cases-cons, List·Memᴰ·eq-of-singleton, List·Memᴰ·not-nil}
+use mathlib.Core.List.{List, [], _∷_, _++_, reverse, reverse-cons, reverse-reverse, Memᴰ·append-left, Memᴰ·append-right, List·Memᴰ, List·Memᴰ·head, List·Memᴰ·tail, List·Memᴰ·append-cases, List·Memᴰ·cases-cons, List·Memᴰ·eq-of-singleton, List·Memᴰ·not-nil}
 use mathlib.Core.Logic.{⊎-elim}
 use native.Mathlib.Omega.{arith}
 
@@ -54,9 +54,7 @@ mem-turned (x ∷ xs) v m =
     rw reverse-cons (⊎-elim (λ e. Memᴰ·append-right (reverse xs) (List·Memᴰ·head e)) (λ m′. Memᴰ·append-left (x ∷ []) (mem-turned xs v m′)) (List·Memᴰ·cases-cons m))
 
 pub turned-mem : (xs : List ℕ) (v : ℕ) → List·Memᴰ v (reverse xs) → List·Memᴰ v xs
-turned-mem [] v m = m
-turned-mem (x ∷ xs) v m =
-    ⊎-elim (λ m′. List·Memᴰ·tail (turned-mem xs v m′)) (λ m′. List·Memᴰ·head (List·Memᴰ·eq-of-singleton m′)) (List·Memᴰ·append-cases (reverse xs) (rw reverse-cons at m))
+turned-mem xs v m = rw (reverse-reverse xs) at (mem-turned (reverse xs) v m)
 
 -- and rises by any key that falls along it
 pub rising-reverse : (f g : ℕ → ℕ) (xs : List ℕ) → ((a b : ℕ) → List·Memᴰ a xs → List·Memᴰ b xs → f a < f b → g b < g a) → Rising f xs → Rising g (reverse xs)

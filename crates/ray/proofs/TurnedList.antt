@@ -13,8 +13,7 @@ use Rattle.ray.proofs.Apart.{follows, starts-apart}
 use Rattle.ray.proofs.Turned.{turned, d-turned, voxel-turned, order-turned, span-turned, crossed-turned, sum-turned, squared-turned}
 
 pub map-same : (f g : ℕ → ℕ) → ((m : ℕ) → f m ≡ g m) → (ms : List ℕ) → map f ms ≡ map g ms
-map-same f g e [] = refl
-map-same f g e (m ∷ ms) = rw (e m, map-same f g e ms)
+map-same f g e ms = λ t. map (λ m. e m t) ms
 
 map-reverse : (f : ℕ → ℕ) (ms : List ℕ) → map f (reverse ms) ≡ reverse (map f ms)
 map-reverse f [] = refl
@@ -24,9 +23,9 @@ map-reverse f (m ∷ ms) =
 module _ (v : Volume) (rise : Rise v) (r : Ray) where
   falls : (a b : ℕ) → List·Memᴰ a (listOf v r) → List·Memᴰ b (listOf v r) → starts v r a < starts v r b → starts v (turned r) b < starts v (turned r) a
   falls a b ma mb h =
-      let (la, pa) = list-sound v r a ma in
-      let (lb, pb) = list-sound v r b mb in
-      order-turned r (voxel v a) (voxel v b) (rw (part-voxel v r a) at pa) (rw (part-voxel v r b) at pb) (follows v rise r a b la lb pa pb h)
+      let ha = list-sound v r a ma in
+      let hb = list-sound v r b mb in
+      order-turned r (voxel v a) (voxel v b) (rw (part-voxel v r a) at (ha .1)) (rw (part-voxel v r b) at (hb .1)) (follows v rise r a b ha hb h)
 
   backwards : Listed (starts v (turned r)) (partOf v (turned r)) (count v) (reverse (listOf v r))
   backwards = record {

@@ -54,9 +54,9 @@ module _ (g : Grid) (r : Ray) where
   pub one-by-one : (i j : ℕ) → i < j → j < length (listOf (volume g) r)
       → stop r (voxel (volume g) (getD (listOf (volume g) r) i 0)) ≤ start r (voxel (volume g) (getD (listOf (volume g) r) j 0))
   one-by-one i j h k =
-      let (li, pi) = listed (getD (listOf (volume g) r) i 0) (getD-member (listOf (volume g) r) i (omega arith)) in
-      let (lj, pj) = listed (getD (listOf (volume g) r) j 0) (getD-member (listOf (volume g) r) j k) in
-      follows (volume g) (grid-rise g) r _ _ li lj pi pj (starts-rise i j h k)
+      let at-i = listed (getD (listOf (volume g) r) i 0) (getD-member (listOf (volume g) r) i (omega arith)) in
+      let at-j = listed (getD (listOf (volume g) r) j 0) (getD-member (listOf (volume g) r) j k) in
+      follows (volume g) (grid-rise g) r _ _ at-i at-j (starts-rise i j h k)
 
   -- No voxel stands at two places.
   pub once : (i j : ℕ) → i < length (listOf (volume g) r) → j < length (listOf (volume g) r) → getD (listOf (volume g) r) i 0 ≡ getD (listOf (volume g) r) j 0 → i ≡ j
