@@ -1,22 +1,22 @@
 -- Fractions of whole numbers: their order, least, greatest, sum and difference, and what those are in units of 1/d. Assumes nothing.
 use Prim.Native.Nat.{ℕ, zero, suc, _+_, _-_, _*_, _≤_, _<_, min, max}
 use mathlib.Core.Path.{_≡_, refl, sym, ap, ap₂, _∙_}
-use mathlib.Core.Bool.{Bool, true, false, not, _&&_, cond, true≢false}
+use mathlib.Core.Bool.{Bool, true, false, not, _&&_, cond}
 use mathlib.Core.List.{List, [], _∷_}
 use mathlib.Core.Logic.{_⊎_, inl, inr}
-use native.Mathlib.Nat.{mul-assoc, mul-comm, mul-right-comm, add-mul, zero-mul, mul-pos, eq-of-mul-eq-mul-right, mul-le-mul-right, le-of-mul-le-mul-right, min-eq-left, min-eq-right, max-eq-left, max-eq-right, zero-sub}
+use native.Mathlib.Nat.{mul-assoc, mul-comm, mul-right-comm, add-mul, zero-mul, mul-pos, eq-of-mul-eq-mul-right, mul-le-mul-right, le-of-mul-le-mul-right, min-eq-left, min-eq-right, max-eq-left, max-eq-right}
 use native.Mathlib.Omega.{arith}
 use native.Mathlib.Decide.{decLe}
-use lib.IntN.{ℤ, pos, negsuc, negℤ, _+ℤ_, _-ℤ_, _*ℤ_, +ℤ-idr, pos-ne-negsuc}
+use lib.IntN.{ℤ, pos, negsuc, negℤ, _+ℤ_, _-ℤ_, _*ℤ_, +ℤ-idr, *ℤ-comm, pos-ne-negsuc}
 use lib.Signed.{leZ, ltZ}
 use lib.Dec.{leb, ltb}
-use borrow.Author.Tests.{leb-true, le-leb, lt-leb, le-ltb}
+use borrow.Author.Tests.{le-leb, lt-leb, le-ltb}
 use Rattle.axis.specs.Leg.{natural}
-use Rattle.axis.proofs.Flag.{lt-not-le, leb-same}
-use Rattle.axis.proofs.Shift.{natural-diff}
+use Rattle.axis.proofs.Flag.{is-true, lt-not-le, leb-same}
+use Rattle.axis.proofs.Shift.{low-pos, above-shift}
 use Rattle.ray.proofs.Through.{sub-times}
 use Rattle.ray.proofs.Tests.{tested}
-use Rattle.ray.proofs.Told.{lt-le, not-le, neg-none}
+use Rattle.ray.proofs.Told.{natural-times, lt-le, level, not-le, natural-rises}
 
 -- a denominator is above zero
 pub record Fraction : Type 0 where
@@ -64,26 +64,16 @@ greatest x (y ∷ ys) = greater y (greatest x ys)
 -- ---- whole numbers, cut off at 0
 
 natural-mul : (z : ℤ) (d : ℕ) → natural (z *ℤ pos d) ≡ natural z * d
-natural-mul (pos a) d = refl
-natural-mul (negsuc a) d = neg-none (suc a * d) ∙ sym (zero-mul d)
+natural-mul z d = ap natural (*ℤ-comm z (pos d)) ∙ natural-times d z ∙ mul-comm d (natural z)
 
 le-natural : (a b : ℤ) → leZ a b ≡ true → natural a ≤ natural b
-le-natural (pos a) (pos b) h = leb-true a b h
-le-natural (pos a) (negsuc b) h = absurd (true≢false (sym h))
-le-natural (negsuc a) (pos b) h = omega arith
-le-natural (negsuc a) (negsuc b) h = omega arith
+le-natural a b h = rw (+ℤ-idr a, +ℤ-idr b) at (natural-rises a b (pos 0) h)
 
 natural-minus : (a : ℤ) (c : ℕ) → natural (a -ℤ pos c) ≡ natural a - c
-natural-minus (pos a) c = natural-diff a c
-natural-minus (negsuc a) zero = ap natural (+ℤ-idr (negsuc a)) ∙ sym (zero-sub 0)
-natural-minus (negsuc a) (suc c) = sym (zero-sub (suc c))
+natural-minus a c = level a (pos c) (pos 0) (λ k ha hc ho. omega (arith, above-shift k a (pos c) ha hc, rw (+ℤ-idr a) at (above-shift k a (pos 0) ha ho)))
 
 low-times : (a d c : ℕ) → leZ (negsuc a *ℤ pos d) (pos c) ≡ true
-low-times a d c = go (suc a * d)
-  where
-    go : (k : ℕ) → leZ (negℤ (pos k)) (pos c) ≡ true
-    go zero = le-leb 0 c (omega arith)
-    go (suc k) = refl
+low-times a d c = is-true _ (low-pos (suc a * d) c)
 
 below : (x y : Fraction) → x ≤ᶠ y ≡ true → natural (x .num) * y .den ≤ natural (y .num) * x .den
 below x y h = rw (← natural-mul (x .num) (y .den), ← natural-mul (y .num) (x .den)) (le-natural (x .num *ℤ pos (y .den)) (y .num *ℤ pos (x .den)) h)

@@ -25,11 +25,11 @@ abs-both (negsuc n) = omega arith
 pub neg-diff : (x y : ℤ) → negℤ (x -ℤ y) ≡ y -ℤ x
 neg-diff x y = negℤ-+ℤ x (negℤ y) ∙ +ℤ-comm (negℤ x) (negℤ (negℤ y)) ∙ ap (λ (z : ℤ). z -ℤ x) (negℤ-negℤ y)
 
-pub neg-none : (n : ℕ) → natural (negℤ (pos n)) ≡ 0
+neg-none : (n : ℕ) → natural (negℤ (pos n)) ≡ 0
 neg-none zero = refl
 neg-none (suc n) = refl
 
-natural-times : (d : ℕ) (z : ℤ) → natural (pos d *ℤ z) ≡ d * natural z
+pub natural-times : (d : ℕ) (z : ℤ) → natural (pos d *ℤ z) ≡ d * natural z
 natural-times d (pos n) = refl
 natural-times d (negsuc n) = neg-none (d * suc n) ∙ sym (mul-zero d)
 
