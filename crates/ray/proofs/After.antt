@@ -3,11 +3,11 @@ use Prim.Native.Nat.{ℕ, _+_, _≤_, _<_}
 use mathlib.Core.Path.{_≡_, refl, _∙_}
 use mathlib.Core.Bool.{Bool, true, false, _&&_, cond}
 use native.Mathlib.Omega.{arith}
-use native.Mathlib.Decide.{decLt, ℕ-discrete}
+use native.Mathlib.Decide.{decLt}
 use lib.Dec.{ltb}
 use borrow.Author.Tests.{lt-ltb, le-ltb}
 use Rattle.ray.specs.Length.{total}
-use Rattle.ray.proofs.Total.{total-same, total-zero, without, without-other, without-self, total-without}
+use Rattle.ray.proofs.Total.{total-same, total-zero, total-but}
 
 module _ (test : ℕ → Bool) (n : ℕ) where
   abbrev passing : ℕ → ℕ → ℕ
@@ -30,16 +30,14 @@ module _ (test : ℕ → Bool) (n : ℕ) where
     pub one-after : (u : ℕ) → t < u → u < n → test u ≡ true → ((x : ℕ) → t < x → x < u → test x ≡ false) → after t ≡ 1 + after u
     one-after u tu un yes-u none =
         let here : passing t u ≡ 1 = rw (lt-ltb t u tu, yes-u) refl in
-        omega (arith, total-without (passing t) u n un, total-same (without (passing t) u) (passing u) n (λ x k. same x))
+        let gone : passing u u ≡ 0 = rw (le-ltb u u (omega arith)) refl in
+        omega (arith, total-but (passing t) (passing u) u n un same)
       where
-        same : (x : ℕ) → without (passing t) u x ≡ passing u x
-        same x = elim (ℕ-discrete x u) [
-          | yes e ↦ without-self (passing t) u x e ∙ rw (le-ltb u x (omega arith)) refl
-          | no e ↦ without-other (passing t) u x e ∙ elim (decLt u x) [
-            | yes h ↦ rw (lt-ltb t x (omega arith), lt-ltb u x h) refl
-            | no h ↦ elim (decLt t x) [
-              | yes k ↦ fails t x (none x k (omega arith)) ∙ rw (le-ltb u x (omega arith)) refl
-              | no k ↦ rw (le-ltb t x (omega arith), le-ltb u x (omega arith)) refl
-            ]
+        same : (x : ℕ) → (x ≡ u → ⊥) → passing t x ≡ passing u x
+        same x e = elim (decLt u x) [
+          | yes h ↦ rw (lt-ltb t x (omega arith), lt-ltb u x h) refl
+          | no h ↦ elim (decLt t x) [
+            | yes k ↦ fails t x (none x k (omega arith)) ∙ rw (le-ltb u x (omega arith)) refl
+            | no k ↦ rw (le-ltb t x (omega arith), le-ltb u x (omega arith)) refl
           ]
         ]

@@ -4,13 +4,13 @@ use mathlib.Core.Path.{_≡_, subst}
 use mathlib.Core.Bool.{true}
 use native.Mathlib.Nat.{mul-le-mul-right, add-zero}
 use native.Mathlib.Omega.{arith}
-use lib.IntN.{ℤ}
-use lib.Signed.{leZ}
+use lib.Signed.{leZ, ≤ℤ-refl}
 use Rattle.axis.specs.declared.Axis.{Axis}
 use Rattle.axis.specs.Leg.{planes}
+use Rattle.axis.proofs.Flag.{is-true}
 use Rattle.ray.specs.declared.Grid.{Grid}
 use Rattle.ray.specs.Length.{Side, X, Y, Z, Volume, volume}
-use Rattle.ray.proofs.Told.{shift-le, level, le-through, le-add}
+use Rattle.ray.proofs.Told.{le-through, le-add}
 
 abbrev pub Rise : Volume → Type 0
 Rise v = (s : Side) (i : ℕ) → i < v s .n → leZ (v s .at i) (v s .at (i + 1)) ≡ true
@@ -29,10 +29,7 @@ grid-rise g s i h = go s
 
 module _ (v : Volume) (rise : Rise v) (s : Side) where
   rise-by : (i k : ℕ) → i + k ≤ v s .n → leZ (v s .at i) (v s .at (i + k)) ≡ true
-  rise-by i zero h = rw (add-zero i) (le-same (v s .at i))
-    where
-      le-same : (z : ℤ) → leZ z z ≡ true
-      le-same z = level z z z (λ k hz hz′ hz″. shift-le k z z hz hz (omega arith))
+  rise-by i zero h = rw (add-zero i) (is-true _ (≤ℤ-refl (v s .at i) .le))
   rise-by i (suc k) h =
       le-through (v s .at i) (v s .at (i + k)) (v s .at (i + suc k)) (rise-by i k (omega arith))
       (subst (λ (j : ℕ). leZ (v s .at (i + k)) (v s .at j) ≡ true) (omega arith) (rise s (i + k) (omega arith)))

@@ -9,6 +9,7 @@ use native.Mathlib.Decide.{ℕ-discrete}
 use lib.Dec.{eqb}
 use lib.ListN.{length}
 use borrow.Author.Tests.{eq-eqb, ne-eqb}
+use Rattle.ray.proofs.Tests.{tested}
 use Rattle.ray.proofs.Rising.{Rising}
 
 -- what comes after x, x itself left out at the head
@@ -24,10 +25,7 @@ joined (x ∷ z ∷ xs) ys = x ∷ joined (z ∷ xs) ys
 past-old : (x w : ℕ) (ys : List ℕ) → List·Memᴰ w (past x ys) → List·Memᴰ w ys
 unfolding past
 past-old x w [] h = h
-past-old x w (y ∷ ys) h = elim (ℕ-discrete x y) [
-  | yes e ↦ List·Memᴰ·tail (rw (eq-eqb x y e) at h)
-  | no e ↦ rw (ne-eqb x y e) at h
-]
+past-old x w (y ∷ ys) h = elim (tested (eqb x y)) [ inl e ↦ List·Memᴰ·tail (rw e at h) | inr e ↦ rw e at h ]
 
 past-all : (x w : ℕ) (ys : List ℕ) → List·Memᴰ w ys → List·Memᴰ w (x ∷ past x ys)
 unfolding past
@@ -58,7 +56,7 @@ module _ (ys : List ℕ) (w : ℕ) where
 past-long : (x : ℕ) (ys : List ℕ) → length ys ≤ suc (length (past x ys))
 unfolding past
 past-long x [] = omega arith
-past-long x (y ∷ ys) = elim (ℕ-discrete x y) [ yes e ↦ rw (eq-eqb x y e) (omega arith) | no e ↦ rw (ne-eqb x y e) (omega arith) ]
+past-long x (y ∷ ys) = elim (tested (eqb x y)) [ inl e ↦ rw e (omega arith) | inr e ↦ rw e (omega arith) ]
 
 -- neither list is longer than the joined one
 pub joined-long : (xs ys : List ℕ) → (length xs ≤ length (joined xs ys)) × (length ys ≤ length (joined xs ys))

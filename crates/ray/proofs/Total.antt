@@ -1,13 +1,10 @@
 -- Sums: `total` over the numbers below n, and a list's. Assumes nothing.
 use Prim.Native.Nat.{ℕ, zero, suc, _+_, _*_, _≤_, _<_}
 use mathlib.Core.Path.{_≡_, refl, sym, ap}
-use mathlib.Core.Bool.{cond}
 use mathlib.Core.List.{List, sum}
 use native.Mathlib.Omega.{arith}
 use native.Mathlib.Decide.{decLt}
 use native.Mathlib.Nat.{mul-add, mul-zero}
-use lib.Dec.{eqb}
-use borrow.Author.Tests.{eq-eqb, ne-eqb}
 use Rattle.ray.specs.Length.{total}
 
 module _ (f g : ℕ → ℕ) where
@@ -37,23 +34,13 @@ module _ (f : ℕ → ℕ) where
   total-times c zero = sym (mul-zero c)
   total-times c (suc n) = omega (arith, total-times c n, mul-add c (total f n) (f n))
 
--- f but for 0 at x
-abbrev pub without : (ℕ → ℕ) → ℕ → ℕ → ℕ
-without f x m = cond (eqb m x) 0 (f m)
-
-pub without-other : (f : ℕ → ℕ) (x m : ℕ) → (m ≡ x → ⊥) → without f x m ≡ f m
-without-other f x m h = rw (ne-eqb m x h) refl
-
-pub without-self : (f : ℕ → ℕ) (x m : ℕ) → m ≡ x → without f x m ≡ 0
-without-self f x m h = rw (eq-eqb m x h) refl
-
-pub total-without : (f : ℕ → ℕ) (x n : ℕ) → x < n → total f n ≡ f x + total (without f x) n
+-- two functions that differ at x alone
+pub total-but : (f g : ℕ → ℕ) (x n : ℕ) → x < n → ((m : ℕ) → (m ≡ x → ⊥) → f m ≡ g m) → total f n + g x ≡ total g n + f x
 unfolding total
-total-without f x zero h = absurd (omega arith)
-total-without f x (suc n) h = elim (decLt x n) [
-  | yes i ↦ omega (arith, total-without f x n i, without-other f x n (λ e. omega arith))
-  | no i ↦ let e : n ≡ x = omega arith in
-      omega (arith, total-same f (without f x) n (λ m j. sym (without-other f x m (λ k. omega arith))), without-self f x n e, ap f e)
+total-but f g x zero h e = absurd (omega arith)
+total-but f g x (suc n) h e = elim (decLt x n) [
+  | yes i ↦ omega (arith, total-but f g x n i e, e n (λ k. omega arith))
+  | no i ↦ let k : n ≡ x = omega arith in omega (arith, total-same f g n (λ m j. e m (λ k. omega arith)), ap f k, ap g k)
 ]
 
 abbrev pub sumList : List ℕ → ℕ
