@@ -2,7 +2,7 @@
 -- is an α times D. Assumes nothing.
 use Prim.Native.Nat.{ℕ, zero, suc, _+_, _*_, _≤_, _<_}
 use mathlib.Core.Path.{_≡_, refl, ap, _∙_}
-use mathlib.Core.Bool.{Bool, true, false, _&&_, _||_, cond}
+use mathlib.Core.Bool.{Bool, true, false, _&&_, _||_, cond, or-true}
 use mathlib.Core.Logic.{inl, inr}
 use native.Mathlib.Omega.{arith}
 use native.Mathlib.Decide.{decLt}
@@ -43,14 +43,10 @@ unfolding total crosses some crossedAt differentOf
 tenths = (refl, refl)
 
 -- ---- what the tests decide
-or-yes : (a b : Bool) → b ≡ true → (a || b) ≡ true
-or-yes true b e = refl
-or-yes false b e = e
-
 one-of : (b : Side → Bool) (s : Side) → b s ≡ true → (b X || (b Y || b Z)) ≡ true
 one-of b X h = rw h refl
-one-of b Y h = or-yes (b X) (b Y || b Z) (rw h refl)
-one-of b Z h = or-yes (b X) (b Y || b Z) (or-yes (b Y) (b Z) h)
+one-of b Y h = rw h (or-true (b X))
+one-of b Z h = rw (h, or-true (b Y)) (or-true (b X))
 
 module _ (test : ℕ → Bool) where
   some-yes : (n i : ℕ) → i < n → test i ≡ true → some test n ≡ true
@@ -58,7 +54,7 @@ module _ (test : ℕ → Bool) where
   some-yes zero i h e = absurd (omega arith)
   some-yes (suc n) i h e = elim (decLt i n) [
     | yes k ↦ rw (some-yes n i k e) refl
-    | no k ↦ let same : n ≡ i = omega arith in or-yes (some test n) (test n) (ap test same ∙ e)
+    | no k ↦ let same : n ≡ i = omega arith in rw (ap test same ∙ e) (or-true (some test n))
   ]
 
   some-no : (n : ℕ) → ((i : ℕ) → i < n → test i ≡ false) → some test n ≡ false

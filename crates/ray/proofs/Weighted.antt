@@ -1,7 +1,7 @@
 -- The weighted sum over all voxels is the sum over the list. Assumes nothing.
 use Prim.Native.Nat.{ℕ, zero, suc, _+_, _*_, _<_}
-use mathlib.Core.Path.{_≡_, refl, sym, ap, _∙_}
-use mathlib.Core.List.{List, [], _∷_, map, sum, List·Memᴰ, List·Memᴰ·head, List·Memᴰ·tail}
+use mathlib.Core.Path.{_≡_, refl, ap}
+use mathlib.Core.List.{List, [], _∷_, map, sum, List·Memᴰ}
 use native.Mathlib.Omega.{arith}
 use native.Mathlib.Decide.{decLt}
 use native.Mathlib.Nat.{zero-mul}
@@ -10,14 +10,9 @@ use lib.ListN.{getD}
 use borrow.Author.Tests.{lt-ltb, le-ltb}
 use Rattle.ray.specs.declared.Ray.{Ray}
 use Rattle.ray.specs.Length.{Volume, count, partOf, insert, listTo, listOf, total, sumOf}
-use Rattle.ray.proofs.Total.{sumList}
+use Rattle.ray.proofs.Total.{total-same, sumList}
 use Rattle.ray.proofs.Insert.{either}
-use Rattle.ray.proofs.Listing.{starts}
-
-pub sum-same : (f g : ℕ → ℕ) (xs : List ℕ) → ((m : ℕ) → List·Memᴰ m xs → f m ≡ g m) → sumList (map f xs) ≡ sumList (map g xs)
-unfolding sum
-sum-same f g [] h = refl
-sum-same f g (x ∷ xs) h = omega (arith, h x (List·Memᴰ·head refl), sum-same f g xs (λ m k. h m (List·Memᴰ·tail k)))
+use Rattle.ray.proofs.Listing.{starts, list-whole}
 
 insert-sum : (key f : ℕ → ℕ) (m : ℕ) (ws : List ℕ) → sumList (map f (insert key m ws)) ≡ f m + sumList (map f ws)
 unfolding sum insert
@@ -42,7 +37,8 @@ module _ (v : Volume) (r : Ray) where
 
   -- RULES 5: a density outside the list has no say.
   pub sum-outside : (densities others : List ℕ) → ((m : ℕ) → List·Memᴰ m (listOf v r) → getD densities m 0 ≡ getD others m 0) → sumOf v r densities ≡ sumOf v r others
-  sum-outside densities others agree =
-      sum-list densities
-      ∙ sum-same (λ m. partOf v r m * getD densities m 0) (λ m. partOf v r m * getD others m 0) (listOf v r) (λ m h. ap (λ (x : ℕ). partOf v r m * x) (agree m h))
-      ∙ sym (sum-list others)
+  unfolding sumOf
+  sum-outside densities others agree = total-same _ _ (count v) (λ m i. elim (decLt 0 (partOf v r m)) [
+    | yes p ↦ ap (λ (x : ℕ). partOf v r m * x) (agree m (list-whole v r m i p))
+    | no p ↦ let e : partOf v r m ≡ 0 = omega arith in rw (e, zero-mul (getD densities m 0), zero-mul (getD others m 0)) refl
+  ])
