@@ -110,14 +110,12 @@ module _ (v : Volume) (rise : Rise v) (r : Ray) where
       | no k ↦ side-apart X k
       | yes x ↦ elim (ℕ-discrete (index v m Y) (index v w Y)) [
         | no k ↦ side-apart Y k
-        | yes y ↦ elim (ℕ-discrete (index v m Z) (index v w Z)) [ no k ↦ side-apart Z k | yes z ↦ absurd (h (index-same v m w (same x y z))) ]
+        | yes y ↦ elim (ℕ-discrete (index v m Z) (index v w Z)) [
+          | no k ↦ side-apart Z k
+          | yes z ↦ absurd (h (index-same v m w (λ s. elim s [ X ↦ x | Y ↦ y | Z ↦ z ])))
+        ]
       ]
     ]
-      where
-        same : index v m X ≡ index v w X → index v m Y ≡ index v w Y → index v m Z ≡ index v w Z → (s : Side) → index v m s ≡ index v w s
-        same x y z X = x
-        same x y z Y = y
-        same x y z Z = z
 
     -- the one that starts first is left first
     pub follows : start r (voxel v m) < start r (voxel v w) → stop r (voxel v m) ≤ start r (voxel v w)

@@ -80,12 +80,6 @@ module _ {n d : ℕ} {l : Leg} {m : ℤ} (cut : CutAt n d l m) where
     last : (w : Way) → Going k w l → Going k w (after l m)
     last w t = record { low-p = hm; low-q = t .low-q; goes = goes w t .1 }
 
-    -- m lies between the ends, whichever is the lower
-    ordered′ : (w : Way) → Going k w l → ((leZ (l .p) m ≡ true) × (leZ m (l .q) ≡ true)) ⊎ ((leZ (l .q) m ≡ true) × (leZ m (l .p) ≡ true))
-    ordered′ down t = let i = goes down t in inr (shift-le k (l .q) m (t .low-q) hm (omega arith), shift-le k m (l .p) hm (t .low-p) (omega arith))
-    ordered′ up t = let i = goes up t in inl (shift-le k (l .p) m (t .low-p) hm (omega arith), shift-le k m (l .q) hm (t .low-q) (omega arith))
-    ordered′ still t = let i = goes still t in inl (shift-le k (l .p) m (t .low-p) hm (omega arith), shift-le k m (l .q) hm (t .low-q) (omega arith))
-
     -- what the pieces of a leg that moves have of its length
     lengths : moving l ≡ true → (w : Way) → Going k w l
         → (factor (before l m) + factor (after l m) ≡ factor l) × (d * factor (before l m) ≡ n * factor l) × ((c : ℤ) → Low k c → run (after l m) c ≡ run l c - factor (before l m))
@@ -99,8 +93,13 @@ module _ {n d : ℕ} {l : Leg} {m : ℤ} (cut : CutAt n d l m) where
         (omega (arith, factor-by down f, factor-by down g, factor-by down t), rw (factor-by down f, factor-by down t) (below t), λ c hc. omega (arith, factor-by down f, run-by c hc down g, run-by c hc down t))
     lengths moved still t = off-or-on (moving l) moved (moving-by still t)
 
+  -- m lies between the ends, whichever is the lower
   pub ordered : ((leZ (l .p) m ≡ true) × (leZ m (l .q) ≡ true)) ⊎ ((leZ (l .q) m ≡ true) × (leZ m (l .p) ≡ true))
-  ordered = told l m m (λ k hm hm′. ordered′ hm)
+  ordered = told l m m (λ k hm hm′ w. elim w [
+    | up ↦ λ t. let i = goes hm up t in inl (shift-le k (l .p) m (t .low-p) hm (omega arith), shift-le k m (l .q) hm (t .low-q) (omega arith))
+    | down ↦ λ t. let i = goes hm down t in inr (shift-le k (l .q) m (t .low-q) hm (omega arith), shift-le k m (l .p) hm (t .low-p) (omega arith))
+    | still ↦ λ t. let i = goes hm still t in inl (shift-le k (l .p) m (t .low-p) hm (omega arith), shift-le k m (l .q) hm (t .low-q) (omega arith))
+  ])
 
   moving-before : moving (before l m) ≡ moving l
   moving-before = told l m m (λ k hm hm′ w t. moving-by w (first hm w t) ∙ sym (moving-by w t))

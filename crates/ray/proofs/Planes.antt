@@ -17,15 +17,10 @@ Rise v = (s : Side) (i : ℕ) → i < v s .n → leZ (v s .at i) (v s .at (i + 1
 
 -- those of every grid do
 pub grid-rise : (g : Grid) → Rise (volume g)
-grid-rise g s i h = go s
+grid-rise g s i h = elim s [ X ↦ on-axis (g .x) | Y ↦ on-axis (g .y) | Z ↦ on-axis (g .z) ]
   where
     on-axis : (a : Axis) → leZ (planes a .at i) (planes a .at (i + 1)) ≡ true
     on-axis a = le-add (a .b) (i * a .d) ((i + 1) * a .d) (mul-le-mul-right (a .d) (omega arith))
-
-    go : (s : Side) → leZ (volume g s .at i) (volume g s .at (i + 1)) ≡ true
-    go X = on-axis (g .x)
-    go Y = on-axis (g .y)
-    go Z = on-axis (g .z)
 
 module _ (v : Volume) (rise : Rise v) (s : Side) where
   rise-by : (i k : ℕ) → i + k ≤ v s .n → leZ (v s .at i) (v s .at (i + k)) ≡ true

@@ -12,7 +12,7 @@ use lib.IntN.{ℤ, natAbs, _-ℤ_}
 use lib.Signed.{ltZ}
 use Rattle.axis.specs.Leg.{Leg, moving, factor, Slab, held}
 use Rattle.axis.proofs.Flag.{off-or-on}
-use Rattle.axis.proofs.Shift.{shift, Low}
+use Rattle.axis.proofs.Shift.{shift}
 use Rattle.ray.specs.declared.Ray.{Ray}
 use Rattle.ray.specs.Length.{Side, X, Y, Z, leg, dOf, rest, squaredOf, Volume, count, array, voxel, holds, start, stop, partOf, misses, spanOf, total, sumOf, crosses, crossedOf}
 use Rattle.ray.proofs.Through.{max-falls, min-falls, sides-as, either-as, sub-times}
@@ -36,17 +36,15 @@ abs-back x y = level x y y (λ k hx hy hy′. omega (arith, gap-shift k y x hy h
 factor-back : (l : Leg) → factor (back l) ≡ factor l
 factor-back l = rw (moving-back l, abs-back (l .q) (l .p))
 
-module _ {k : ℕ} {l : Leg} where
-  going-back : {w : Way} → Going k w l → (w′ : Way) → Goes w′ (shift k (l .q)) (shift k (l .p)) → Going k w′ (back l)
-  going-back t w′ g = record { low-p = t .low-q; low-q = t .low-p; goes = g }
-
-  passed-back′ : (c : ℤ) → Low k c → moving l ≡ true → (w : Way) → Going k w l → passed (back l) c ≡ factor l - passed l c
-  passed-back′ c hc m up t = omega (arith, factor-back l, factor-by up t, run-by c hc down (going-back t down (t .goes)), run-by c hc up t)
-  passed-back′ c hc m down t = omega (arith, factor-back l, factor-by down t, run-by c hc up (going-back t up (t .goes)), run-by c hc down t)
-  passed-back′ c hc m still t = off-or-on (moving l) m (moving-by still t)
+going-back : {k : ℕ} {l : Leg} {w : Way} → Going k w l → (w′ : Way) → Goes w′ (shift k (l .q)) (shift k (l .p)) → Going k w′ (back l)
+going-back t w′ g = record { low-p = t .low-q; low-q = t .low-p; goes = g }
 
 passed-back : (l : Leg) (c : ℤ) → moving l ≡ true → passed (back l) c ≡ factor l - passed l c
-passed-back l c m = told l c c (λ k hc hm. passed-back′ c hc m)
+passed-back l c m = told l c c (λ k hc hm w. elim w [
+  | up ↦ λ t. omega (arith, factor-back l, factor-by up t, run-by c hc down (going-back t down (t .goes)), run-by c hc up t)
+  | down ↦ λ t. omega (arith, factor-back l, factor-by down t, run-by c hc up (going-back t up (t .goes)), run-by c hc down t)
+  | still ↦ λ t. off-or-on (moving l) m (moving-by still t)
+])
 
 held-back : (l : Leg) (t : Slab) → held (back l) t ≡ held l t
 held-back l = held-same l (back l) (moving-back l) (λ h. sym (still-same l h))

@@ -74,21 +74,19 @@ told l c m f =
     f k (low-abs k c (omega arith)) (low-abs k m (omega arith)) (w .0) (record { low-p = low-abs k (l .p) (omega arith); low-q = low-abs k (l .q) (omega arith); goes = w .1 })
 
 module _ (l : Leg) where
-  still-same′ : moving l ≡ false → {k : ℕ} (w : Way) → Going k w l → l .p ≡ l .q
-  still-same′ h up t = off-or-on (moving l) (moving-by up t) h
-  still-same′ h down t = off-or-on (moving l) (moving-by down t) h
-  still-same′ h {k} still t = same-shift k (l .p) (l .q) (t .low-p) (t .low-q) (t .goes)
-
   pub still-same : moving l ≡ false → l .p ≡ l .q
-  still-same h = told l (l .p) (l .p) (λ k hc hm. still-same′ h)
-
-  factor-pos′ : {k : ℕ} (w : Way) → Going k w l → 0 < factor l
-  factor-pos′ up t = omega (arith, factor-by up t)
-  factor-pos′ down t = omega (arith, factor-by down t)
-  factor-pos′ still t = omega (arith, factor-by still t)
+  still-same h = told l (l .p) (l .p) (λ k hc hm w. elim w [
+    | up ↦ λ t. off-or-on (moving l) (moving-by up t) h
+    | down ↦ λ t. off-or-on (moving l) (moving-by down t) h
+    | still ↦ λ t. same-shift k (l .p) (l .q) (t .low-p) (t .low-q) (t .goes)
+  ])
 
   pub factor-pos : 0 < factor l
-  factor-pos = told l (l .p) (l .p) (λ k hc hm. factor-pos′)
+  factor-pos = told l (l .p) (l .p) (λ k hc hm w. elim w [
+    | up ↦ λ t. omega (arith, factor-by up t)
+    | down ↦ λ t. omega (arith, factor-by down t)
+    | still ↦ λ t. omega (arith, factor-by still t)
+  ])
 
 -- a leg that moves as l does, from the same coordinate if it is still, is held as l is
 pub held-same : (l t : Leg) → moving t ≡ moving l → (moving l ≡ false → t .p ≡ l .p) → (s : Slab) → held t s ≡ held l s
