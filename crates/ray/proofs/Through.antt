@@ -1,4 +1,4 @@
--- The least and the greatest of two numbers, seen through a function that rises or falls. Assumes nothing.
+-- The least and the greatest of two numbers, and over the three sides, seen through a function that rises or falls. Assumes nothing.
 use Prim.Native.Nat.{ℕ, _-_, _*_, _≤_, _<_, min, max}
 use mathlib.Core.Path.{_≡_, refl, sym, ap, ap₂, _∙_}
 use mathlib.Core.Bool.{Bool, true, false, cond}

@@ -56,9 +56,7 @@ turned r = record { p = r .q; q = r .p }
 
 module _ (r : Ray) where
   leg-turned : (s : Side) → leg (turned r) s ≡ back (leg r s)
-  leg-turned X = refl
-  leg-turned Y = refl
-  leg-turned Z = refl
+  leg-turned s = elim s [ X ↦ refl | Y ↦ refl | Z ↦ refl ]
 
   pub moving-turned : (s : Side) → moving (leg (turned r) s) ≡ moving (leg r s)
   moving-turned s = ap moving (leg-turned s) ∙ moving-back (leg r s)
