@@ -7,7 +7,8 @@ use native.Mathlib.Omega.{arith}
 use native.Mathlib.Nat.{mul-le-mul}
 use lib.IntN.{ℤ, pos, _+ℤ_}
 use Rattle.axis.specs.Leg.{factor, natural}
-use Rattle.axis.specs.Codes.{Limits, tenths, inside, first}
+use Rattle.axis.specs.declared.Limits.{Limits}
+use Rattle.axis.specs.Codes.{tenths, inside, first}
 use Rattle.axis.proofs.Shift.{shift-is, shift-add, low-add}
 use Rattle.axis.proofs.Bounds.{inside-low, inside-most}
 use Rattle.ray.specs.declared.Grid.{Grid}
