@@ -1,4 +1,4 @@
-use mathlib.Core.Path.{_≡_}
+use mathlib.Core.Path.{_≡_, refl}
 use mathlib.Core.Bool.{true}
 use native.Mathlib.Omega.{arith}
 use lib.IntN.{pos, negℤ}
@@ -24,7 +24,7 @@ returns c =
     let s = c .before .before in
     let e = wide-is (s .args .c) (s .fits .c) in
     let low : leZ (negℤ (pos (s .args .self .coord))) (s .args .c) ≡ true = rw (lowest-is (s .args .self .coord) (omega arith), e) at (c .if1 .taken) in
-    rw (e, low, limit-is (s .args .self .coord) (omega arith))
+    rw (e, low, limit-is (s .args .self .coord) (omega arith)) refl
 
 returns-2 : tie.Need-returns-2
 returns-2 c =
