@@ -3,19 +3,15 @@ use Prim.Native.Nat.{ℕ, _+_, _*_, _^_, _≤_, _<_}
 use mathlib.Core.Path.{_≡_}
 use mathlib.Core.Bool.{true}
 use mathlib.Core.List.{List, [], _∷_, sum}
-use lib.IntN.{ℤ, pos, _+ℤ_}
 use lib.ListN.{length, getD}
-use Rattle.axis.specs.declared.Axis.{Axis}
-use Rattle.axis.specs.Leg.{natural}
-use Rattle.axis.specs.Codes.{Limits, tenths, first}
+use Rattle.axis.specs.Codes.{tenths, first}
 use Rattle.ray.specs.declared.Grid.{Grid}
 use Rattle.ray.specs.declared.Ray.{Ray}
 use Rattle.ray.specs.Length.{volume, count, dOf}
 use Rattle.ray.specs.Codes.{gridRows, endRows}
-use Rattle.walk.specs.declared.line.Line.{Line}
-use Rattle.walk.specs.declared.line.Scene.{Scene}
+use Rattle.line.specs.declared.scene.Scene.{Scene}
+use Rattle.line.specs.Scene.{Able, volumeOf, rayOf}
 use Rattle.walk.specs.declared.plan.Frame.{Frame}
-use Rattle.walk.specs.Scene.{Able, volumeOf, rayOf}
 use Rattle.walk.specs.Plan.{Framed}
 
 -- what no code from 1 to 7 means
@@ -24,23 +20,6 @@ pub record Accepted (g : Grid) (r : Ray) (densities voxels parts : ℕ) : Type 0
   pub ends : first (endRows tenths r) ≡ 0
   pub densities-are : densities ≡ count (volume g)
   pub lists-are : voxels ≡ parts
-
--- an axis and the ray on it, every coordinate told from the lower limit up
-abbrev pub lineOf : Limits → Axis → ℤ → ℤ → Line
-lineOf m a p q = record {
-  p = natural (p +ℤ pos (m .coord));
-  q = natural (q +ℤ pos (m .coord));
-  b = natural (a .b +ℤ pos (m .coord));
-  d = a .d;
-  n = a .n;
-}
-
-abbrev pub sceneOf : Limits → Grid → Ray → Scene
-sceneOf m g r = record {
-  x = lineOf m (g .x) (r .p .x) (r .q .x);
-  y = lineOf m (g .y) (r .p .y) (r .q .y);
-  z = lineOf m (g .z) (r .p .z) (r .q .z);
-}
 
 -- the sum of part·density over entries
 abbrev pub weighed : List ℕ → List ℕ → List ℕ → ℕ
