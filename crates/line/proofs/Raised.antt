@@ -1,6 +1,6 @@
 -- A grid and a ray that are accepted, told from the lower limit up: a scene that is `Able`, and the same volume and ray moved by
 -- the limit. At any limits that are small enough. Assumes nothing.
-use Prim.Native.Nat.{ℕ, _+_, _*_, _^_, _≤_}
+use Prim.Native.Nat.{ℕ, _+_, _*_, _≤_, _<_}
 use mathlib.Core.Path.{_≡_, refl, sym, ap, _∙_}
 use mathlib.Core.Bool.{true}
 use native.Mathlib.Omega.{arith}
@@ -8,7 +8,7 @@ use native.Mathlib.Nat.{mul-le-mul}
 use lib.IntN.{ℤ, pos, _+ℤ_}
 use Rattle.axis.specs.Leg.{factor, natural}
 use Rattle.axis.specs.declared.Limits.{Limits}
-use Rattle.axis.specs.Codes.{tenths, inside, first}
+use Rattle.axis.specs.Codes.{inside, first}
 use Rattle.axis.proofs.Shift.{shift-is, shift-add, low-add}
 use Rattle.axis.proofs.Bounds.{inside-low, inside-most}
 use Rattle.ray.specs.declared.Grid.{Grid}
@@ -18,17 +18,8 @@ use Rattle.ray.specs.Codes.{gridRows, endRows}
 use Rattle.ray.proofs.Moved.{Moved}
 use Rattle.line.specs.Scene.{line, volumeOf, rayOf, Sized, Able}
 use Rattle.line.proofs.Sizes.{factor-most}
-use Rattle.line.specs.Raised.{lineOf, sceneOf}
+use Rattle.line.specs.Raised.{Small, cube, lineOf, sceneOf}
 use Rattle.ray.proofs.Accepted.{axisOf, axes-ok, ends-inside}
-
--- limits that make a scene `Able`: a coordinate told from below is at most 2^20
-pub record Small (m : Limits) : Type 0 where
-  pub coord-size : m .coord + m .coord ≤ 2 ^ 20
-  pub d-size : m .d ≤ 2 ^ 20
-  pub n-size : m .n ≤ 2 ^ 9
-
-pub tenths-small : Small tenths
-tenths-small = record { coord-size = omega arith; d-size = omega arith; n-size = omega arith }
 
 module _ (m : Limits) (g : Grid) (r : Ray) (grid : first (gridRows m g) ≡ 0) (ends : first (endRows m r) ≡ 0) where
   line-is : (o : Side) → line (sceneOf m g r) o ≡ lineOf m (axisOf g o) (leg r o .p) (leg r o .q)
@@ -85,11 +76,13 @@ module _ (m : Limits) (g : Grid) (r : Ray) (grid : first (gridRows m g) ≡ 0) (
       ends′ Z = told (r .q .z) (ends-inside m r ends Z .1)
 
 -- RULES 3: the most that D is
-pub d-tenths : (g : Grid) (r : Ray) → first (endRows tenths r) ≡ 0 → dOf (rayOf (sceneOf tenths g r)) ≤ 2 ^ 45
-d-tenths g r ends =
-    mul-le-mul {n₂ = 2 ^ 15} {m₂ = 2 ^ 30} (side X) (mul-le-mul {n₂ = 2 ^ 15} {m₂ = 2 ^ 15} (side Y) (side Z))
+pub d-most : (m : Limits) → 0 < m .coord → (g : Grid) (r : Ray) → first (endRows m r) ≡ 0 → dOf (rayOf (sceneOf m g r)) ≤ cube (m .coord + m .coord)
+d-most m some g r ends = mul-le-mul (side X) (mul-le-mul (side Y) (side Z))
   where
-    side : (o : Side) → factor (leg (rayOf (sceneOf tenths g r)) o) ≤ 2 ^ 15
-    side X = factor-most _ _ (2 ^ 15) (inside-most tenths (r .p .x) (ends-inside tenths r ends X .0)) (inside-most tenths (r .q .x) (ends-inside tenths r ends X .1)) (omega arith)
-    side Y = factor-most _ _ (2 ^ 15) (inside-most tenths (r .p .y) (ends-inside tenths r ends Y .0)) (inside-most tenths (r .q .y) (ends-inside tenths r ends Y .1)) (omega arith)
-    side Z = factor-most _ _ (2 ^ 15) (inside-most tenths (r .p .z) (ends-inside tenths r ends Z .0)) (inside-most tenths (r .q .z) (ends-inside tenths r ends Z .1)) (omega arith)
+    end : (c : ℤ) → inside m c ≡ true → natural (c +ℤ pos (m .coord)) ≤ m .coord + m .coord
+    end = inside-most m
+
+    side : (o : Side) → factor (leg (rayOf (sceneOf m g r)) o) ≤ m .coord + m .coord
+    side X = let e = ends-inside m r ends X in factor-most _ _ _ (end (r .p .x) (e .0)) (end (r .q .x) (e .1)) (omega arith)
+    side Y = let e = ends-inside m r ends Y in factor-most _ _ _ (end (r .p .y) (e .0)) (end (r .q .y) (e .1)) (omega arith)
+    side Z = let e = ends-inside m r ends Z in factor-most _ _ _ (end (r .p .z) (e .0)) (end (r .q .z) (e .1)) (omega arith)

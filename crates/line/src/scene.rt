@@ -21,12 +21,17 @@ pub struct Scene {
 pub fn line_of(m: Limits, a: Axis, p: i32, q: i32) -> Line
     ensures { λ r. ⌜ r ≡ lineOf m a p q ⌝ }
 {
+    let start = raised(p, m.coord);
+    let end = raised(q, m.coord);
+    let b = raised(a.b, m.coord);
+    let d = a.d as u64;
+    let n = a.n as u64;
     Line {
-        p: raised(p, m.coord),
-        q: raised(q, m.coord),
-        b: raised(a.b, m.coord),
-        d: a.d as u64,
-        n: a.n as u64,
+        p: start,
+        q: end,
+        b,
+        d,
+        n,
     }
 }
 

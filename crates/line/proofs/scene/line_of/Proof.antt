@@ -15,11 +15,11 @@ raised-requires-2 c κs = search needs
 raised-requires-3 : tie.Need-raised-requires-3
 raised-requires-3 c κs = search needs
 
-cast-t7 : tie.Need-cast-t7
-cast-t7 c = search needs
+cast-d : tie.Need-cast-d
+cast-d c = search needs
 
-cast-t8 : tie.Need-cast-t8
-cast-t8 c = search needs
+cast-n : tie.Need-cast-n
+cast-n c = search needs
 
 returns : tie.Need-returns
 returns c =
@@ -32,4 +32,4 @@ returns c =
 pub line-of-spec : {M : Type 1} → statement M
 line-of-spec =
     tie.close
-    (tie.spec raised-requires raised-requires-2 raised-requires-3 cast-t7 cast-t8 returns)
+    (tie.spec raised-requires raised-requires-2 raised-requires-3 cast-d cast-n returns)
