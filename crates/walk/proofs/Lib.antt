@@ -12,3 +12,4 @@ pub mod FewPlanes
 pub mod Alphas
 pub mod Counts
 pub mod Once
+pub mod Called

@@ -1,4 +1,5 @@
 // The exact walk: from a scene in whole numbers without a sign to the voxels that the ray meets, in order, and the parts.
+pub mod call;
 pub mod entries;
 pub mod plan;
 pub mod steps;
