@@ -33,11 +33,11 @@ pub record Reading {A : Type 0} (read : List ℕ → Option A) (s : List ℕ) (k
   pub kept : length out ≡ length out₀
   pub so-far : every read n (drop (k + 1) (split 9 s)) ≡ behind (take j out) (every read (n - j) (after 9 (drop e s)))
 
-module _ {A : Type 0} (read : List ℕ → Option A) (s : List ℕ) (k n : ℕ) (out₀ : List A) where
-  pub reading-begins : (e : ℕ) → e ≤ length s → after 9 (drop e s) ≡ drop (k + 1) (split 9 s) → Reading read s k n out₀ out₀ e 0
-  reading-begins e h rest = record { within = h; few = omega arith; kept = refl; so-far = let all : n - 0 ≡ n = omega arith in rw (all, rest) (behind-nil (every read n (drop (k + 1) (split 9 s)))) }
+module _ {A : Type 0} {read : List ℕ → Option A} {s : List ℕ} {k n : ℕ} {out₀ : List A} where
+  pub reading-begins : {e : ℕ} → e ≤ length s → after 9 (drop e s) ≡ drop (k + 1) (split 9 s) → Reading read s k n out₀ out₀ e 0
+  reading-begins h rest = record { within = h; few = omega arith; kept = refl; so-far = let all : n - 0 ≡ n = omega arith in rw (all, rest) (behind-nil (every read n (drop (k + 1) (split 9 s)))) }
 
-  module _ (out : List A) (e j : ℕ) (r : Reading read s k n out₀ out e j) where
+  module _ {out : List A} {e j : ℕ} (r : Reading read s k n out₀ out e j) where
     pub reading-ends : n ≤ j → some (take n out) ≡ every read n (drop (k + 1) (split 9 s))
     unfolding every
     reading-ends h =
@@ -54,7 +54,7 @@ module _ {A : Type 0} (read : List ℕ → Option A) (s : List ℕ) (k n : ℕ) 
       unfolding every
       reading-short h = sym (r .so-far ∙ rw (one-left, after-end 9 s e h) refl)
 
-      module _ (h : e < length s) (e′ : ℕ) (ends : e′ ≡ e + 1 + until 9 (drop (e + 1) s)) where
+      module _ (h : e < length s) {e′ : ℕ} (ends : e′ ≡ e + 1 + until 9 (drop (e + 1) s)) where
         turn : every read n (drop (k + 1) (split 9 s)) ≡ behind (take j out) (ahead (read (take (e′ - (e + 1)) (drop (e + 1) s))) (every read (n - (j + 1)) (after 9 (drop e′ s))))
         unfolding every
         turn = r .so-far ∙ rw (one-left, next-field 9 s e e′ h ends) refl
@@ -62,8 +62,8 @@ module _ {A : Type 0} (read : List ℕ → Option A) (s : List ℕ) (k n : ℕ) 
         pub reading-bad : read (take (e′ - (e + 1)) (drop (e + 1) s)) ≡ none → none ≡ every read n (drop (k + 1) (split 9 s))
         reading-bad bad = sym (turn ∙ rw bad refl)
 
-        pub reading-on : (v : A) → read (take (e′ - (e + 1)) (drop (e + 1) s)) ≡ some v → j < length out → Reading read s k n out₀ (set out j v) e′ (j + 1)
-        reading-on v good room = record {
+        pub reading-on : {v : A} → read (take (e′ - (e + 1)) (drop (e + 1) s)) ≡ some v → j < length out → Reading read s k n out₀ (set out j v) e′ (j + 1)
+        reading-on {v} good room = record {
           within = rw ends (end-within 9 s (e + 1) (omega arith));
           few = omega arith;
           kept = length-set out j v ∙ r .kept;
