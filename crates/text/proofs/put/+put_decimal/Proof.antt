@@ -1,13 +1,11 @@
 -- `text::put::put_decimal`, which calls itself on fewer digits, meets its contract. Assumes nothing.
-use Prim.Native.Nat.{ℕ, _≤_, _<_, _/_}
+use Prim.Native.Nat.{ℕ, _≤_, _<_}
 use native.Mathlib.Omega.{arith}
-use lib.ListN.{take}
 use borrow.Author.Needs.{needs}
 use borrow.Fn.Kinds.{In, Out}
 use borrow.Fn.PlainCycle.{Measures, is, falls, and}
-use Rattle.text.specs.Decimal.{decimal}
 use Rattle.text.proofs.Decimal.{decimal-one, decimal-many, length-one, length-many}
-use Rattle.text.proofs.Written.{then}
+use mathlib.Core.List.{append-assoc}
 use Rattle.text.proofs.put.put_decimal.Reads as reads
 use Rattle.text.proofs.put.put_decimal.Kinds.{ps, r}
 use Rattle.text.proofs.put.put_byte.Reads as put-byte
@@ -67,9 +65,9 @@ same-length-2 t c = search needs
 returns-2 : Each lts.Need-returns-2
 returns-2 t c =
     let tens = c .before .before .before .before .before .before in
-    let a = tens .before .before .before .before .args in
-    let many : 10 ≤ a .x = omega arith in
-    (omega (arith, length-many (a .x) many), rw (decimal-many (a .x) many) (then (take (a .at) (a .out .now)) (decimal (a .x / 10)) _ (tens .put-decimal .ensures .1) (c .before .before .put-byte2 .ensures .1)))
+    let x = tens .before .before .before .before .args .x in
+    let many : 10 ≤ x = omega arith in
+    (omega (arith, length-many x many), rw (decimal-many x many, c .before .before .put-byte2 .ensures .1, tens .put-decimal .ensures .1) (simp append-assoc))
 
 pub +put-decimal-spec : {M : Type 1} → statement M
 +put-decimal-spec = close μ λ t. lts.spec (calls t) (on t) reads.Post
