@@ -63,7 +63,8 @@ same-length-2 c = c .before .before .before .before .before .before .before .loo
 returns-2 : tie.Need-returns-2 Inv-loop μ-loop
 returns-2 c =
     let passed = c .before .before .before .before in
-    reading-bad (passed .before .before .before .loop .inv) (omega arith) (omega arith) (passed .field-end .ensures) (integer-told (c .before .before .integer-in .ensures) (c .enum-told .given .1))
+    reading-bad (passed .before .before .before .loop .inv) (omega arith) (omega arith) (passed .field-end .ensures)
+    (integer-told (c .before .before .integer-in .ensures) (c .enum-told .given .1))
 
 mul-v : tie.Need-mul-v Inv-loop μ-loop
 mul-v c = search needs
@@ -79,10 +80,13 @@ loop-less c = search needs
 
 loop-again : tie.Need-loop-again Inv-loop μ-loop
 loop-again c =
-    let passed = c .before .before .before .before .before in
-    let v = c .before .value .given .0 .0 in
-    let e : toZ w32 (ofZ w32 v) ≡ v = search needs in
-    rw e (reading-on (passed .before .before .before .loop .inv) (omega arith) (omega arith) (passed .field-end .ensures) (integer-told (c .before .before .before .integer-in .ensures) (c .before .value .given .1)) (omega arith))
+    let read = c .before in
+    let passed = read .before .before .before .before in
+    let e : toZ w32 (ofZ w32 (read .value .given .0 .0)) ≡ read .value .given .0 .0 = search needs in
+    rw e
+    (reading-on (passed .before .before .before .loop .inv) (omega arith) (omega arith) (passed .field-end .ensures)
+    (integer-told (read .before .before .integer-in .ensures) (read .value .given .1))
+    (omega arith))
 
 same-length-3 : tie.Need-same-length-3 Inv-loop μ-loop
 same-length-3 c = c .before .loop .inv .kept

@@ -60,15 +60,18 @@ same-length-2 c = c .before .before .before .before .before .before .before .loo
 returns-2 : tie.Need-returns-2 Inv-loop μ-loop
 returns-2 c =
     let passed = c .before .before .before .before in
-    reading-bad (passed .before .before .before .loop .inv) (omega arith) (omega arith) (passed .field-end .ensures) (to-bad _ _ (natural-told (c .before .before .natural-in .ensures) (c .enum-told .given .1)))
+    reading-bad (passed .before .before .before .loop .inv) (omega arith) (omega arith) (passed .field-end .ensures)
+    (to-bad _ _ (natural-told (c .before .before .natural-in .ensures) (c .enum-told .given .1)))
 
 same-length-3 : tie.Need-same-length-3 Inv-loop μ-loop
 same-length-3 c = c .before .before .before .before .before .before .before .before .before .loop .inv .kept
 
 returns-3 : tie.Need-returns-3 Inv-loop μ-loop
 returns-3 c =
-    let passed = c .before .before .before .before .before .before in
-    reading-bad (passed .before .before .before .loop .inv) (omega arith) (omega arith) (passed .field-end .ensures) (to-over _ _ (natural-told (c .before .before .before .before .natural-in .ensures) (c .before .before .size .given .1)) (c .if2 .taken))
+    let read = c .before .before in
+    let passed = read .before .before .before .before in
+    reading-bad (passed .before .before .before .loop .inv) (omega arith) (omega arith) (passed .field-end .ensures)
+    (to-over _ _ (natural-told (read .before .before .natural-in .ensures) (read .size .given .1)) (c .if2 .taken))
 
 mul-out : tie.Need-mul-out Inv-loop μ-loop
 mul-out c = search needs
@@ -84,8 +87,11 @@ loop-less c = search needs
 
 loop-again : tie.Need-loop-again Inv-loop μ-loop
 loop-again c =
-    let passed = c .before .before .before .before .before .before in
-    reading-on (passed .before .before .before .loop .inv) (omega arith) (omega arith) (passed .field-end .ensures) (to-good _ _ (natural-told (c .before .before .before .before .natural-in .ensures) (c .before .before .size .given .1)) (c .if2 .left)) (omega arith)
+    let read = c .before .before in
+    let passed = read .before .before .before .before in
+    reading-on (passed .before .before .before .loop .inv) (omega arith) (omega arith) (passed .field-end .ensures)
+    (to-good _ _ (natural-told (read .before .before .natural-in .ensures) (read .size .given .1)) (c .if2 .left))
+    (omega arith)
 
 same-length-4 : tie.Need-same-length-4 Inv-loop μ-loop
 same-length-4 c = c .before .loop .inv .kept
