@@ -12,35 +12,30 @@ use lib.ListN.{length}
 use borrow.Author.Tests.{eqb-true, eqb-false, leb-true, ne-eqb}
 use Rattle.text.specs.Decimal.{decimal}
 use Rattle.text.specs.Number.{digits, alone, naturalOf, hasMinus, negative, integerOf, numeral}
-use Rattle.text.proofs.Decimal.{decimal-one, decimal-many, decimal-snoc, one-or-many, headed, length-six, six-length}
+use Rattle.text.proofs.Decimal.{decimal-one, decimal-many, decimal-snoc, by-tens, headed, length-six, six-length}
 use Rattle.text.proofs.Digits.{digits-step}
 
 -- COMPLETE
 
-read-one : (n : ℕ) (ds : List ℕ) → n < 10 → digits 0 (decimal n ++ ds) ≡ digits n ds
-read-one n ds w =
-    let s : 0 * 10 + (48 + n - 48) ≡ n = omega arith in
-    rw (decimal-one n w) (digits-step 0 (48 + n) ds (omega arith) (omega arith) (omega arith) ∙ ap (λ (m : ℕ). digits m ds) s)
+read-decimal : (n : ℕ) → n < 1000000 → (ds : List ℕ) → digits 0 (decimal n ++ ds) ≡ digits n ds
+read-decimal = by-tens (λ n. n < 1000000 → (ds : List ℕ) → digits 0 (decimal n ++ ds) ≡ digits n ds) one many
+  where
+    one : (n : ℕ) → n < 10 → n < 1000000 → (ds : List ℕ) → digits 0 (decimal n ++ ds) ≡ digits n ds
+    one n w g ds =
+        let s : 0 * 10 + (48 + n - 48) ≡ n = omega arith in
+        rw (decimal-one n w) (digits-step 0 (48 + n) ds (omega arith) (omega arith) (omega arith) ∙ rw s)
 
-read-many : (n : ℕ) (ds : List ℕ) → 10 ≤ n → n < 1000000 → ((es : List ℕ) → digits 0 (decimal (n / 10) ++ es) ≡ digits (n / 10) es) → digits 0 (decimal n ++ ds) ≡ digits n ds
-read-many n ds w g tens =
-    let s : n / 10 * 10 + (48 + n % 10 - 48) ≡ n = omega arith in
-    rw (decimal-many n w, append-assoc) (tens ((48 + n % 10) ∷ ds) ∙ digits-step (n / 10) (48 + n % 10) ds (omega arith) (omega arith) (omega arith) ∙ ap (λ (m : ℕ). digits m ds) s)
-
-read-decimal : (k n : ℕ) (ds : List ℕ) → n ≤ k → n < 1000000 → digits 0 (decimal n ++ ds) ≡ digits n ds
-read-decimal zero n ds h g = read-one n ds (omega arith)
-read-decimal (suc k) n ds h g = one-or-many n (λ w. read-one n ds w) (λ w. read-many n ds w g (λ es. read-decimal k (n / 10) es (omega arith) (omega arith)))
-
-read-whole : (n : ℕ) → n < 1000000 → digits 0 (decimal n) ≡ some n
-unfolding digits
-read-whole n g = ap (digits 0) (sym (append-nil (decimal n))) ∙ read-decimal n n [] (omega arith) g
+    many : (n : ℕ) → 10 ≤ n → (n / 10 < 1000000 → (ds : List ℕ) → digits 0 (decimal (n / 10) ++ ds) ≡ digits (n / 10) ds) → n < 1000000 → (ds : List ℕ) → digits 0 (decimal n ++ ds) ≡ digits n ds
+    many n w tens g ds =
+        let s : n / 10 * 10 + (48 + n % 10 - 48) ≡ n = omega arith in
+        rw (decimal-many n w, append-assoc) (tens (omega arith) ((48 + n % 10) ∷ ds) ∙ digits-step (n / 10) (48 + n % 10) ds (omega arith) (omega arith) (omega arith) ∙ rw s)
 
 small-complete : (v : ℕ) → v < 1000000 → naturalOf (decimal v) ≡ some v
-unfolding naturalOf
+unfolding naturalOf digits
 small-complete zero g = rw (decimal-one 0 (omega arith)) refl
 small-complete (suc v) g =
     let h = headed (suc v) in
-    ap naturalOf (h .spelt) ∙ rw (ne-eqb (h .first) 48 (λ z. omega (arith, h .leading (omega arith)))) (ap (digits 0) (sym (h .spelt)) ∙ read-whole (suc v) g)
+    ap naturalOf (h .spelt) ∙ rw (ne-eqb (h .first) 48 (λ z. omega (arith, h .leading (omega arith)))) (ap (digits 0) (sym (h .spelt) ∙ sym (append-nil _)) ∙ read-decimal (suc v) g [])
 
 pub natural-complete : (v : ℕ) → length (decimal v) ≤ 6 → naturalOf (decimal v) ≡ some v
 natural-complete v six = small-complete v (six-length v six)
