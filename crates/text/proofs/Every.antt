@@ -1,9 +1,8 @@
 -- Fields read one after the other into a list: what the loops that read the numbers of a line keep. Assumes nothing.
-use mathlib.Core.Bool.{Bool, true, false, cond}
 use Prim.Native.Nat.{ℕ, zero, suc, _+_, _-_, _≤_, _<_}
 use mathlib.Core.List.{List, [], _∷_, _++_, append-assoc, append-nil}
-use mathlib.Core.Option.{Option, none, some, Option·map, Option·none-ne-some, Option·some-injective}
-use mathlib.Core.Path.{_≡_, refl, ap, sym, _∙_, subst}
+use mathlib.Core.Option.{Option, none, some, Option·map, Option·some-injective}
+use mathlib.Core.Path.{_≡_, refl, ap, sym, _∙_}
 use lib.ListN.{length, getD, take, drop, set, length-set}
 use native.Mathlib.Omega.{arith}
 use lib.Dec.{leb}
@@ -12,6 +11,7 @@ use Rattle.text.specs.Split.{split, until, after}
 use Rattle.text.specs.Number.{naturalOf}
 use Rattle.text.specs.Numbers.{upTo, naturalTo, ahead, every}
 use Rattle.text.proofs.Split.{after-end, next-field, end-within}
+use Rattle.text.proofs.Told.{none-some, cond-some}
 use Rattle.text.proofs.Written.{one-put}
 
 -- what was read, and then what is read of the rest
@@ -83,26 +83,20 @@ module _ (most : ℕ) (t : List ℕ) where
   pub to-within : {v : ℕ} → naturalTo most t ≡ some v → v ≤ most
   to-within {v} e = bounded (naturalOf t) e
     where
-      kept-low : (w : ℕ) (b : Bool) → leb w most ≡ b → cond b (some w) none ≡ some v → v ≤ most
-      kept-low w true h f = omega (arith, leb-true w most h, Option·some-injective w v f)
-      kept-low w false h f = absurd (Option·none-ne-some v f)
-
       bounded : (o : Option ℕ) → upTo most o ≡ some v → v ≤ most
-      bounded none f = absurd (Option·none-ne-some v f)
-      bounded (some w) f = kept-low w (leb w most) refl f
+      bounded none f = none-some f
+      bounded (some w) f = let kept = cond-some (leb w most) (some w) f in omega (arith, leb-true w most (kept .0), Option·some-injective w v (kept .1))
 
 -- what holds of every number that can be read holds of all that were
-pub every-holds : {A : Type 0} (read : List ℕ → Option A) (P : A → Type 0) (d : A) → ((t : List ℕ) (v : A) → read t ≡ some v → P v) → (n : ℕ) (fs : List (List ℕ)) {vs : List A} → every read n fs ≡ some vs → (i : ℕ) → i < n → P (getD vs i d)
+pub every-holds : {A : Type 0} (read : List ℕ → Option A) (P : A → Type 0) (d : A) → ((t : List ℕ) (v : A) → read t ≡ some v → P v)
+    → (n : ℕ) (fs : List (List ℕ)) {vs : List A} → every read n fs ≡ some vs → (i : ℕ) → i < n → P (getD vs i d)
 unfolding every
 every-holds read P d holds zero fs e i h = absurd (omega arith)
-every-holds read P d holds (suc n) [] {vs} e i h = absurd (Option·none-ne-some vs e)
-every-holds {A} read P d holds (suc n) (f ∷ fs) {vs} e i h = first (read f) (every read n fs) refl (λ ws q j g. every-holds read P d holds n fs {vs = ws} q j g) e
+every-holds read P d holds (suc n) [] e i h = none-some e
+every-holds {A} read P d holds (suc n) (f ∷ fs) {vs} e i h = first (read f) (every read n fs) refl (λ ws q. every-holds read P d holds n fs {vs = ws} q) e i h
   where
-    at : (v : A) (ws : List A) → read f ≡ some v → ((j : ℕ) → j < n → P (getD ws j d)) → (j : ℕ) → j < suc n → P (getD (v ∷ ws) j d)
-    at v ws p rest zero g = holds f v p
-    at v ws p rest (suc j) g = rest j (omega arith)
-
-    first : (o : Option A) (os : Option (List A)) → read f ≡ o → ((ws : List A) → os ≡ some ws → (j : ℕ) → j < n → P (getD ws j d)) → ahead o os ≡ some vs → P (getD vs i d)
-    first none os p rest r = absurd (Option·none-ne-some vs r)
-    first (some v) none p rest r = absurd (Option·none-ne-some vs r)
-    first (some v) (some ws) p rest r = subst (λ (l : List A). P (getD l i d)) (Option·some-injective (v ∷ ws) vs r) (at v ws p (rest ws refl) i h)
+    first : (o : Option A) (os : Option (List A)) → read f ≡ o → ((ws : List A) → os ≡ some ws → (j : ℕ) → j < n → P (getD ws j d)) → ahead o os ≡ some vs → (j : ℕ) → j < suc n → P (getD vs j d)
+    first none os p rest r j g = none-some r
+    first (some v) none p rest r j g = none-some r
+    first (some v) (some ws) p rest r zero g = rw (← Option·some-injective (v ∷ ws) vs r) (holds f v p)
+    first (some v) (some ws) p rest r (suc j) g = rw (← Option·some-injective (v ∷ ws) vs r) (rest ws refl j (omega arith))

@@ -3,7 +3,7 @@
 use Prim.Native.Nat.{ℕ, zero, suc, _+_, _*_, _-_, _/_, _%_, _≤_, _<_}
 use mathlib.Core.Bool.{Bool, true, false, cond}
 use mathlib.Core.List.{List, [], _∷_, _++_, append-assoc, append-nil}
-use mathlib.Core.Option.{Option, none, some, Option·map, Option·none-ne-some, Option·some-injective}
+use mathlib.Core.Option.{Option, none, some, Option·map, Option·some-injective}
 use mathlib.Core.Path.{_≡_, refl, ap, sym, _∙_}
 use native.Mathlib.Omega.{arith}
 use lib.Dec.{eqb, leb}
@@ -14,18 +14,23 @@ use Rattle.text.specs.Decimal.{decimal}
 use Rattle.text.specs.Number.{digits, alone, naturalOf, hasMinus, negative, integerOf, numeral}
 use Rattle.text.proofs.Decimal.{decimal-one, decimal-many, decimal-snoc, by-tens, headed, length-six, six-length}
 use Rattle.text.proofs.Digits.{digits-step}
+use Rattle.text.proofs.Told.{none-some, cond-some}
 
 -- COMPLETE
 
-read-decimal : (n : ℕ) → n < 1000000 → (ds : List ℕ) → digits 0 (decimal n ++ ds) ≡ digits n ds
-read-decimal = by-tens (λ n. n < 1000000 → (ds : List ℕ) → digits 0 (decimal n ++ ds) ≡ digits n ds) one many
+-- the digits of n, at most six, are read as n, whatever follows
+abbrev Read : ℕ → Type 0
+Read n = n < 1000000 → (ds : List ℕ) → digits 0 (decimal n ++ ds) ≡ digits n ds
+
+read-decimal : (n : ℕ) → Read n
+read-decimal = by-tens Read one many
   where
-    one : (n : ℕ) → n < 10 → n < 1000000 → (ds : List ℕ) → digits 0 (decimal n ++ ds) ≡ digits n ds
+    one : (n : ℕ) → n < 10 → Read n
     one n w g ds =
         let s : 0 * 10 + (48 + n - 48) ≡ n = omega arith in
         rw (decimal-one n w) (digits-step 0 (48 + n) ds (omega arith) (omega arith) (omega arith) ∙ rw s)
 
-    many : (n : ℕ) → 10 ≤ n → (n / 10 < 1000000 → (ds : List ℕ) → digits 0 (decimal (n / 10) ++ ds) ≡ digits (n / 10) ds) → n < 1000000 → (ds : List ℕ) → digits 0 (decimal n ++ ds) ≡ digits n ds
+    many : (n : ℕ) → 10 ≤ n → Read (n / 10) → Read n
     many n w tens g ds =
         let s : n / 10 * 10 + (48 + n % 10 - 48) ≡ n = omega arith in
         rw (decimal-many n w, append-assoc) (tens (omega arith) ((48 + n % 10) ∷ ds) ∙ digits-step (n / 10) (48 + n % 10) ds (omega arith) (omega arith) (omega arith) ∙ rw s)
@@ -50,13 +55,6 @@ integer-complete (pos v) six = rw (no-minus v, natural-complete v six) refl
 integer-complete (negsuc v) six = rw (natural-complete (suc v) six) refl
 
 -- SOUND
-
-none-some : {A : Type 0} {X : Type 0} {a : A} → none ≡ some a → X
-none-some {A} {X} {a} e = absurd (Option·none-ne-some a e)
-
-cond-some : (b : Bool) (p : Option ℕ) {v : ℕ} → cond b p none ≡ some v → (b ≡ true) × (p ≡ some v)
-cond-some true p e = (refl, e)
-cond-some false p e = none-some e
 
 -- a digit that was read
 record Took (acc d : ℕ) (ds : List ℕ) (v : ℕ) : Type 0 where

@@ -1,5 +1,5 @@
 -- Two answers allowed by a promise of this crate are equal, and so is what it says of a lent list. Assumes nothing.
-use Prim.Native.Nat.{ℕ, suc, _+_, _-_, _≤_, _<_}
+use Prim.Native.Nat.{ℕ, suc, _+_, _-_, _≤_}
 use mathlib.Core.Bool.{Bool, true, false, cond, true≢false}
 use mathlib.Core.List.{List, [], _∷_, _++_}
 use mathlib.Core.Option.{Option}
@@ -16,6 +16,7 @@ use Rattle.text.specs.Split.{grow, split, after}
 use Rattle.text.specs.Number.{naturalOf, readNatural, integerOf, readInteger}
 use Rattle.text.specs.Numbers.{every, told}
 use Rattle.text.specs.Word.{wordOf}
+use Rattle.text.proofs.Split.{split-first}
 
 -- as in axis, on which this crate does not stand
 once : {A : Type 0} {x y z : A} → x ≡ z → y ≡ z → x ≡ y
@@ -58,10 +59,6 @@ abbrev spread : List (List ℕ) → ℕ
 spread [] = 0
 spread (f ∷ fs) = length f + 1 + spread fs
 
-grow-spread : (x : ℕ) (fs : List (List ℕ)) → 0 < spread fs → spread (grow x fs) ≡ spread fs + 1
-grow-spread x [] h = absurd (omega arith)
-grow-spread x (f ∷ fs) h = omega arith
-
 split-spread : (sep : ℕ) (xs : List ℕ) → spread (split sep xs) ≡ length xs + 1
 unfolding split
 split-spread sep [] = refl
@@ -69,7 +66,7 @@ split-spread sep (x ∷ xs) = go (eqb x sep) (split-spread sep xs)
   where
     go : (b : Bool) → spread (split sep xs) ≡ length xs + 1 → spread (cond b ([] ∷ split sep xs) (grow x (split sep xs))) ≡ suc (length xs) + 1
     go true e = omega (arith, e)
-    go false e = omega (arith, e, grow-spread x (split sep xs) (omega (arith, e)))
+    go false e = omega (arith, e, ap spread (split-first sep xs), ap (λ (l : List (List ℕ)). spread (grow x l)) (split-first sep xs))
 
 after-spread : (sep : ℕ) (xs : List ℕ) → spread (after sep xs) ≡ length xs
 unfolding after

@@ -12,13 +12,17 @@ use native.Mathlib.Numerals.{add-one}
 use borrow.Author.Tests.{eq-eqb, ne-eqb}
 use Rattle.text.specs.Split.{grow, split, until, after}
 
+-- cut at n: the field ahead, and those behind
+abbrev parted : ℕ → ℕ → List ℕ → List (List ℕ)
+parted sep n xs = take n xs ∷ after sep (drop n xs)
+
 -- the first field ends ahead of the first sep, and the others are those of what stands behind it
 pub split-first : (sep : ℕ) (xs : List ℕ) → split sep xs ≡ take (until sep xs) xs ∷ after sep (drop (until sep xs) xs)
 unfolding split until after
 split-first sep [] = refl
 split-first sep (x ∷ xs) = go (eqb x sep) (split-first sep xs)
   where
-    go : (b : Bool) → split sep xs ≡ take (until sep xs) xs ∷ after sep (drop (until sep xs) xs) → cond b ([] ∷ split sep xs) (grow x (split sep xs)) ≡ take (cond b zero (suc (until sep xs))) (x ∷ xs) ∷ after sep (drop (cond b zero (suc (until sep xs))) (x ∷ xs))
+    go : (b : Bool) → split sep xs ≡ parted sep (until sep xs) xs → cond b ([] ∷ split sep xs) (grow x (split sep xs)) ≡ parted sep (cond b zero (suc (until sep xs))) (x ∷ xs)
     go true e = refl
     go false e = ap (grow x) e
 
