@@ -73,9 +73,7 @@ took acc d ds e =
 
 digits-sound : (acc : ℕ) (ds : List ℕ) {v : ℕ} → 0 < acc → acc < 1000000 → digits acc ds ≡ some v → (decimal v ≡ decimal acc ++ ds) × (v < 1000000)
 unfolding digits
-digits-sound acc [] {v} p g e =
-    let same : acc ≡ v = Option·some-injective acc v e in
-    (sym (append-nil (decimal acc) ∙ ap decimal same), omega arith)
+digits-sound acc [] {v} p g e = rw (← Option·some-injective acc v e) (sym (append-nil (decimal acc)), g)
 digits-sound acc (d ∷ ds) {v} p g e =
     let t = took acc d ds e in
     let r = digits-sound (acc * 10 + (d - 48)) ds (omega (arith, t .room)) (omega (arith, t .low, t .high, t .room)) (t .rest) in
@@ -83,9 +81,7 @@ digits-sound acc (d ∷ ds) {v} p g e =
     (r .0 ∙ ap (λ (l : List ℕ). l ++ ds) (decimal-snoc acc (d - 48) p (omega (arith, t .high))) ∙ rw (append-assoc, s) refl, r .1)
 
 alone-sound : (ds : List ℕ) {v : ℕ} → alone ds ≡ some v → (48 ∷ ds ≡ decimal v) × (v < 1000000)
-alone-sound [] {v} e =
-    let same : 0 ≡ v = Option·some-injective 0 v e in
-    (sym (decimal-one 0 (omega arith)) ∙ ap decimal same, omega arith)
+alone-sound [] {v} e = rw (← Option·some-injective 0 v e) (sym (decimal-one 0 (omega arith)), omega arith)
 alone-sound (x ∷ xs) e = none-some e
 
 leading-sound : (d : ℕ) (ds : List ℕ) {v : ℕ} → (d ≡ 48 → ⊥) → digits 0 (d ∷ ds) ≡ some v → (d ∷ ds ≡ decimal v) × (v < 1000000)
@@ -116,15 +112,12 @@ negative-sound : (t : List ℕ) (o : Option ℕ) {z : ℤ} → naturalOf t ≡ o
 negative-sound t none q e = none-some e
 negative-sound t (some zero) q e = none-some e
 negative-sound t (some (suc v)) {z} q e =
-    let same : negsuc v ≡ z = Option·some-injective (negsuc v) z e in
     let r = natural-sound t q in
-    rw (sym same) (ap (λ (l : List ℕ). 45 ∷ l) (r .0), r .1)
+    rw (← Option·some-injective (negsuc v) z e) (ap (λ (l : List ℕ). 45 ∷ l) (r .0), r .1)
 
 plain-sound : (t : List ℕ) (o : Option ℕ) {z : ℤ} → naturalOf t ≡ o → Option·map pos o ≡ some z → (t ≡ numeral z) × (length (decimal (natAbs z)) ≤ 6)
 plain-sound t none q e = none-some e
-plain-sound t (some v) {z} q e =
-    let same : pos v ≡ z = Option·some-injective (pos v) z e in
-    rw (sym same) (natural-sound t q)
+plain-sound t (some v) {z} q e = rw (← Option·some-injective (pos v) z e) (natural-sound t q)
 
 pub integer-sound : (t : List ℕ) {z : ℤ} → integerOf t ≡ some z → (t ≡ numeral z) × (length (decimal (natAbs z)) ≤ 6)
 unfolding integerOf hasMinus
