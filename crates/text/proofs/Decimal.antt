@@ -8,11 +8,6 @@ use native.Mathlib.Decide.{decLt}
 use borrow.Author.Tests.{lt-ltb, le-ltb}
 use Rattle.text.specs.Decimal.{digitsOf, decimal}
 
--- the greatest number of 64 bits computes
-greatest : decimal 18446744073709551615 ≡ 49 ∷ 56 ∷ 52 ∷ 52 ∷ 54 ∷ 55 ∷ 52 ∷ 52 ∷ 48 ∷ 55 ∷ 51 ∷ 55 ∷ 48 ∷ 57 ∷ 53 ∷ 53 ∷ 49 ∷ 54 ∷ 49 ∷ 53 ∷ []
-unfolding decimal digitsOf
-greatest = refl
-
 digits-one : (k n : ℕ) → n < 10 → digitsOf k n ≡ (48 + n) ∷ []
 unfolding digitsOf
 digits-one zero n h = refl

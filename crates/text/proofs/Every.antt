@@ -55,6 +55,9 @@ module _ {A : Type 0} {read : List ℕ → Option A} {s : List ℕ} {k n : ℕ} 
       reading-short h = sym (r .so-far ∙ rw (one-left, after-end 9 s e h) refl)
 
       module _ (h : e < length s) {e′ : ℕ} (ends : e′ ≡ e + 1 + until 9 (drop (e + 1) s)) where
+        pub reading-passed : e′ ≤ length s
+        reading-passed = rw ends (end-within 9 s (e + 1) (omega arith))
+
         turn : every read n (drop (k + 1) (split 9 s)) ≡ behind (take j out) (ahead (read (take (e′ - (e + 1)) (drop (e + 1) s))) (every read (n - (j + 1)) (after 9 (drop e′ s))))
         unfolding every
         turn = r .so-far ∙ rw (one-left, next-field 9 s e e′ h ends) refl
@@ -64,7 +67,7 @@ module _ {A : Type 0} {read : List ℕ → Option A} {s : List ℕ} {k n : ℕ} 
 
         pub reading-on : {v : A} → read (take (e′ - (e + 1)) (drop (e + 1) s)) ≡ some v → j < length out → Reading read s k n out₀ (set out j v) e′ (j + 1)
         reading-on {v} good room = record {
-          within = rw ends (end-within 9 s (e + 1) (omega arith));
+          within = reading-passed;
           few = omega arith;
           kept = length-set out j v ∙ r .kept;
           so-far = turn ∙ rw (good, one-put out j v room) (behind-ahead (take j out) v (every read (n - (j + 1)) (after 9 (drop e′ s))));

@@ -1,4 +1,4 @@
--- What a reader's answer tells of what was read, for any reader whose answers can be read back. Assumes nothing.
+-- What an answer tells of what was read: of any reader whose answers can be read back, and of a number that was kept. Assumes nothing.
 use mathlib.Core.Bool.{Bool, true, false, cond}
 use mathlib.Core.Option.{Option, none, some, Option·none-ne-some}
 use mathlib.Core.Path.{_≡_, refl, sym, ap, _∙_}

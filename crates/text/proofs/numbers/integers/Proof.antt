@@ -1,14 +1,13 @@
 -- `text::numbers::integers` meets its contract. The loop keeps `Reading`. Assumes nothing.
-use Prim.Native.Nat.{_+_, _-_}
+use Prim.Native.Nat.{_-_}
 use native.Mathlib.Omega.{arith}
 use borrow.Author.Needs.{needs}
 use mathlib.Core.Path.{_≡_}
 use mir.Syntax.{w32}
 use mir.Val.{toZ, ofZ}
 use Rattle.text.specs.Number.{integerOf}
-use Rattle.text.proofs.Split.{end-within}
 use Rattle.text.proofs.Sign.{integer-told}
-use Rattle.text.proofs.Every.{Reading, reading-begins, reading-ends, reading-short, reading-bad, reading-on}
+use Rattle.text.proofs.Every.{Reading, reading-begins, reading-ends, reading-short, reading-passed, reading-bad, reading-on}
 use Rattle.text.proofs.numbers.integers.Statement.{statement}
 use Rattle.text.proofs.numbers.integers.Tie as tie
 
@@ -43,10 +42,7 @@ part-integer-in-start : tie.Need-part-integer-in-start Inv-loop μ-loop
 part-integer-in-start c = search needs
 
 part-integer-in-end : tie.Need-part-integer-in-end Inv-loop μ-loop
-part-integer-in-end c =
-    let l = c .before .before .before in
-    let a = l .before .before .before .args in
-    omega (arith, end-within 9 (a .line .now) (l .loop .end + 1) (omega arith))
+part-integer-in-end c = reading-passed (c .before .before .before .loop .inv) (omega arith) (omega arith) (c .field-end .ensures)
 
 integer-in-requires : tie.Need-integer-in-requires Inv-loop μ-loop
 integer-in-requires c κs = search needs

@@ -1,11 +1,10 @@
 -- `text::numbers::naturals` meets its contract. The loop keeps `Reading`. Assumes nothing.
-use Prim.Native.Nat.{_+_, _-_}
+use Prim.Native.Nat.{_-_}
 use native.Mathlib.Omega.{arith}
 use borrow.Author.Needs.{needs}
 use Rattle.text.specs.Numbers.{naturalTo}
-use Rattle.text.proofs.Split.{end-within}
 use Rattle.text.proofs.Sign.{natural-told}
-use Rattle.text.proofs.Every.{Reading, reading-begins, reading-ends, reading-short, reading-bad, reading-on, to-bad, to-over, to-good}
+use Rattle.text.proofs.Every.{Reading, reading-begins, reading-ends, reading-short, reading-passed, reading-bad, reading-on, to-bad, to-over, to-good}
 use Rattle.text.proofs.numbers.naturals.Statement.{statement}
 use Rattle.text.proofs.numbers.naturals.Tie as tie
 
@@ -40,10 +39,7 @@ part-natural-in-start : tie.Need-part-natural-in-start Inv-loop μ-loop
 part-natural-in-start c = search needs
 
 part-natural-in-end : tie.Need-part-natural-in-end Inv-loop μ-loop
-part-natural-in-end c =
-    let l = c .before .before .before in
-    let a = l .before .before .before .before .args in
-    omega (arith, end-within 9 (a .line .now) (l .loop .end + 1) (omega arith))
+part-natural-in-end c = reading-passed (c .before .before .before .loop .inv) (omega arith) (omega arith) (c .field-end .ensures)
 
 natural-in-requires : tie.Need-natural-in-requires Inv-loop μ-loop
 natural-in-requires c κs = search needs
