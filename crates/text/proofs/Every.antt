@@ -10,7 +10,7 @@ use borrow.Author.Tests.{le-leb, lt-leb, leb-true}
 use Rattle.text.specs.Split.{split, until, after}
 use Rattle.text.specs.Number.{naturalOf}
 use Rattle.text.specs.Numbers.{upTo, naturalTo, ahead, every}
-use Rattle.text.proofs.Split.{after-end, next-field, end-within}
+use Rattle.text.proofs.Split.{part, after-end, next-field, end-within}
 use Rattle.text.proofs.Told.{none-some, cond-some}
 use Rattle.text.proofs.Written.{one-put}
 
@@ -58,14 +58,14 @@ module _ {A : Type 0} {read : List ℕ → Option A} {s : List ℕ} {k n : ℕ} 
         pub reading-passed : e′ ≤ length s
         reading-passed = rw ends (end-within 9 s (e + 1) (omega arith))
 
-        turn : every read n (drop (k + 1) (split 9 s)) ≡ behind (take j out) (ahead (read (take (e′ - (e + 1)) (drop (e + 1) s))) (every read (n - (j + 1)) (after 9 (drop e′ s))))
+        turn : every read n (drop (k + 1) (split 9 s)) ≡ behind (take j out) (ahead (read (part s (e + 1) e′)) (every read (n - (j + 1)) (after 9 (drop e′ s))))
         unfolding every
         turn = r .so-far ∙ rw (one-left, next-field 9 s e e′ h ends) refl
 
-        pub reading-bad : read (take (e′ - (e + 1)) (drop (e + 1) s)) ≡ none → none ≡ every read n (drop (k + 1) (split 9 s))
+        pub reading-bad : read (part s (e + 1) e′) ≡ none → none ≡ every read n (drop (k + 1) (split 9 s))
         reading-bad bad = sym (turn ∙ rw bad refl)
 
-        pub reading-on : {v : A} → read (take (e′ - (e + 1)) (drop (e + 1) s)) ≡ some v → j < length out → Reading read s k n out₀ (set out j v) e′ (j + 1)
+        pub reading-on : {v : A} → read (part s (e + 1) e′) ≡ some v → j < length out → Reading read s k n out₀ (set out j v) e′ (j + 1)
         reading-on {v} good room = record {
           within = reading-passed;
           few = omega arith;

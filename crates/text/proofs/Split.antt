@@ -13,8 +13,8 @@ use borrow.Author.Tests.{eq-eqb, ne-eqb}
 use Rattle.text.specs.Split.{grow, split, until, after}
 
 -- cut at n: the field ahead, and those behind
-abbrev parted : ℕ → ℕ → List ℕ → List (List ℕ)
-parted sep n xs = take n xs ∷ after sep (drop n xs)
+abbrev cut : ℕ → ℕ → List ℕ → List (List ℕ)
+cut sep n xs = take n xs ∷ after sep (drop n xs)
 
 -- the first field ends ahead of the first sep, and the others are those of what stands behind it
 pub split-first : (sep : ℕ) (xs : List ℕ) → split sep xs ≡ take (until sep xs) xs ∷ after sep (drop (until sep xs) xs)
@@ -22,7 +22,7 @@ unfolding split until after
 split-first sep [] = refl
 split-first sep (x ∷ xs) = go (eqb x sep) (split-first sep xs)
   where
-    go : (b : Bool) → split sep xs ≡ parted sep (until sep xs) xs → cond b ([] ∷ split sep xs) (grow x (split sep xs)) ≡ parted sep (cond b zero (suc (until sep xs))) (x ∷ xs)
+    go : (b : Bool) → split sep xs ≡ cut sep (until sep xs) xs → cond b ([] ∷ split sep xs) (grow x (split sep xs)) ≡ cut sep (cond b zero (suc (until sep xs))) (x ∷ xs)
     go true e = refl
     go false e = ap (grow x) e
 
@@ -76,20 +76,24 @@ module _ (sep : ℕ) (s : List ℕ) (i : ℕ) where
   unfolding after
   after-sep h = rw (add-one, drop-cons s i 0) refl
 
+-- the bytes from `at` up to e
+abbrev pub part : List ℕ → ℕ → ℕ → List ℕ
+part s at e = take (e - at) (drop at s)
+
 -- the field that starts at `at` and ends at e, and those behind it
-fields-from : (sep : ℕ) (s : List ℕ) (at e : ℕ) → e ≡ at + until sep (drop at s) → split sep (drop at s) ≡ take (e - at) (drop at s) ∷ after sep (drop e s)
+fields-from : (sep : ℕ) (s : List ℕ) (at e : ℕ) → e ≡ at + until sep (drop at s) → split sep (drop at s) ≡ part s at e ∷ after sep (drop e s)
 fields-from sep s at e ends =
     let n : e - at ≡ until sep (drop at s) = omega arith in
     split-first sep (drop at s)
     ∙ rw (n, ends, drop-drop (until sep (drop at s)) at s) refl
 
 -- one field on: the next starts behind the sep
-pub next-field : (sep : ℕ) (s : List ℕ) (e e′ : ℕ) → e < length s → e′ ≡ e + 1 + until sep (drop (e + 1) s) → after sep (drop e s) ≡ take (e′ - (e + 1)) (drop (e + 1) s) ∷ after sep (drop e′ s)
+pub next-field : (sep : ℕ) (s : List ℕ) (e e′ : ℕ) → e < length s → e′ ≡ e + 1 + until sep (drop (e + 1) s) → after sep (drop e s) ≡ part s (e + 1) e′ ∷ after sep (drop e′ s)
 next-field sep s e e′ h ends = after-sep sep s e h ∙ fields-from sep s (e + 1) e′ ends
 
 -- what `field` promises of field k: it starts at `at` and ends at e, and the others follow
 abbrev pub Field : ℕ → List ℕ → ℕ → ℕ → ℕ → Type 0
-Field sep s k at e = ((at ≤ e) × (e ≤ length s)) × ((take (e - at) (drop at s) ≡ getD (split sep s) k []) × (after sep (drop e s) ≡ drop (k + 1) (split sep s)))
+Field sep s k at e = ((at ≤ e) × (e ≤ length s)) × ((part s at e ≡ getD (split sep s) k []) × (after sep (drop e s) ≡ drop (k + 1) (split sep s)))
 
 -- a walk to field k: the fields from j on are those of the line from `at` on
 pub record Walk (sep : ℕ) (s : List ℕ) (k j at : ℕ) : Type 0 where
@@ -99,10 +103,10 @@ pub record Walk (sep : ℕ) (s : List ℕ) (k j at : ℕ) : Type 0 where
 
 -- and the first of them ends at e
 module _ {sep : ℕ} {s : List ℕ} {k j at : ℕ} (w : Walk sep s k j at) {e : ℕ} (ends : e ≡ at + until sep (drop at s)) where
-  from-here : drop j (split sep s) ≡ take (e - at) (drop at s) ∷ after sep (drop e s)
+  from-here : drop j (split sep s) ≡ part s at e ∷ after sep (drop e s)
   from-here = w .rest ∙ fields-from sep s at e ends
 
-  here : take (e - at) (drop at s) ≡ getD (split sep s) j []
+  here : part s at e ≡ getD (split sep s) j []
   here = sym (ap (λ (l : List (List ℕ)). getD l 0 []) from-here) ∙ getD-drop j (split sep s) 0 [] ∙ rw add-zero refl
 
   behind : after sep (drop e s) ≡ drop (j + 1) (split sep s)
