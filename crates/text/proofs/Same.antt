@@ -11,7 +11,7 @@ use native.Mathlib.Omega.{arith}
 use borrow.Author.Tests.{eq-eqb, ne-eqb, eqb-true}
 use Rattle.text.specs.Word.{same}
 
--- what compares as the same is equal, and the other way round
+-- what compares as the same is equal
 pub same-equal : (a b : List ℕ) → same a b ≡ true → a ≡ b
 unfolding same
 same-equal [] [] e = refl
@@ -22,11 +22,6 @@ same-equal (x ∷ xs) (y ∷ ys) e = go (eqb x y) refl (same-equal xs ys) e
     go : (t : Bool) → eqb x y ≡ t → (same xs ys ≡ true → xs ≡ ys) → (t && same xs ys) ≡ true → x ∷ xs ≡ y ∷ ys
     go true q tail r = let h = eqb-true x y q in let t = tail r in cc
     go false q tail r = absurd (true≢false (sym r))
-
-pub same-self : (a : List ℕ) → same a a ≡ true
-unfolding same
-same-self [] = refl
-same-self (x ∷ xs) = rw (eq-eqb x x refl) (same-self xs)
 
 pub same-length : (a b : List ℕ) → (length a ≡ length b → ⊥) → false ≡ same a b
 same-length a b h = go (same a b) refl
