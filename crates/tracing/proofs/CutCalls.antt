@@ -27,9 +27,9 @@ use Rattle.tracing.proofs.OneCall.{Traced, free, denominator-is, sum-is
 abbrev pub shareIn : ℕ → Trace → List ℕ → List ℕ → ℕ
 shareIn w a vs ps = share w (take (a .entries) vs) (take (a .entries) ps)
 
-mean-as : (f f₁ f₂ d d₁ d₂ x x₁ x₂ e e₁ e₂ y y₁ y₂ : ℕ) → d ≡ e → d₁ ≡ e₁ → d₂ ≡ e₂ → x ≡ y → x₁ ≡ y₁ → x₂ ≡ y₂
+mean-as : {f f₁ f₂ d d₁ d₂ x x₁ x₂ e e₁ e₂ y y₁ y₂ : ℕ} → d ≡ e → d₁ ≡ e₁ → d₂ ≡ e₂ → x ≡ y → x₁ ≡ y₁ → x₂ ≡ y₂
     → MeanOf f f₁ f₂ e e₁ e₂ y y₁ y₂ → MeanOf f f₁ f₂ d d₁ d₂ x x₁ x₂
-mean-as f f₁ f₂ d d₁ d₂ x x₁ x₂ e e₁ e₂ y y₁ y₂ hd hd₁ hd₂ hx hx₁ hx₂ h = rw (hd, hd₁, hd₂, hx, hx₁, hx₂) h
+mean-as hd hd₁ hd₂ hx hx₁ hx₂ h = rw (hd, hd₁, hd₂, hx, hx₁, hx₂) h
 
 mean-none : {f f₁ f₂ d d₁ d₂ x x₁ x₂ : ℕ} → MeanOf f f₁ f₂ d d₁ d₂ x x₁ x₂ → MeanOf f f₁ f₂ d d₁ d₂ 0 0 0
 mean-none h = record { f-pos = h .f-pos; d-pos = h .d-pos; d₁-pos = h .d₁-pos; d₂-pos = h .d₂-pos; is = simp (mul-zero, zero-mul) }
@@ -74,14 +74,13 @@ module _ {lim : Limits} {g : Grid} {r : Ray} {m : End} {densities vs ps vs′ ps
           → MeanOf (difference r s) (difference (near r m) s) (difference (far r m) s) (a .denominator) (a₁ .denominator) (a₂ .denominator)
           (shareIn w a vs′ ps′) (shareIn w a₁ vs₁′ ps₁′) (shareIn w a₂ vs₂′ ps₂′)
       cut-shares s moves w =
-          let mean = mean-as (difference r s) (difference (near r m) s) (difference (far r m) s) (a .denominator) (a₁ .denominator) (a₂ .denominator) (shareIn w a vs′ ps′) (shareIn w a₁ vs₁′ ps₁′) (shareIn w a₂ vs₂′ ps₂′) in
           elim (decLt w (count (volume g))) [
-            | yes l ↦ mean _ _ _ _ _ _ (denominator-is whole h) (denominator-is one h₁) (denominator-is two h₂)
+            | yes l ↦ mean-as (denominator-is whole h) (denominator-is one h₁) (denominator-is two h₂)
                 (share-is whole h w ∙ share-part (volume g) r w l)
                 (share-is one h₁ w ∙ share-part (volume g) (near r m) w l)
                 (share-is two h₂ w ∙ share-part (volume g) (far r m) w l)
                 (cut .part s moves w)
-            | no l ↦ mean _ _ _ 0 0 0 (denominator-is whole h) (denominator-is one h₁) (denominator-is two h₂)
+            | no l ↦ mean-as (denominator-is whole h) (denominator-is one h₁) (denominator-is two h₂)
                 (share-is whole h w ∙ share-none (volume g) r w (omega arith))
                 (share-is one h₁ w ∙ share-none (volume g) (near r m) w (omega arith))
                 (share-is two h₂ w ∙ share-none (volume g) (far r m) w (omega arith))
@@ -91,7 +90,5 @@ module _ {lim : Limits} {g : Grid} {r : Ray} {m : End} {densities vs ps vs′ ps
       pub cut-sums : (s : Side) → moving (leg r s) ≡ true
           → MeanOf (difference r s) (difference (near r m) s) (difference (far r m) s) (a .denominator) (a₁ .denominator) (a₂ .denominator) (a .sum) (a₁ .sum) (a₂ .sum)
       cut-sums s moves =
-          mean-as (difference r s) (difference (near r m) s) (difference (far r m) s) (a .denominator) (a₁ .denominator) (a₂ .denominator) (a .sum) (a₁ .sum) (a₂ .sum) _ _ _ _ _ _
-          (denominator-is whole h) (denominator-is one h₁) (denominator-is two h₂)
-          (sum-is whole h) (sum-is one h₁) (sum-is two h₂)
+          mean-as (denominator-is whole h) (denominator-is one h₁) (denominator-is two h₂) (sum-is whole h) (sum-is one h₁) (sum-is two h₂)
           (cut .sum s moves densities)

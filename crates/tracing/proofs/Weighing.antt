@@ -32,7 +32,7 @@ pub record Weighing (densities vs ps : List ℕ) (so-far i : ℕ) : Type 0 where
 pub none-weighed : (densities vs ps : List ℕ) → Weighing densities vs ps 0 0
 none-weighed densities vs ps = record { index = omega arith; whole = omega arith }
 
-module _ (densities vs ps : List ℕ) (so-far i : ℕ) (w : Weighing densities vs ps so-far i) where
+module _ {densities vs ps : List ℕ} {so-far i : ℕ} (w : Weighing densities vs ps so-far i) where
   pub all-weighed : length vs ≤ i → so-far ≡ weighed densities vs ps
   all-weighed h = let e : weighed densities vs ps ≡ so-far + 0 = w .whole ∙ rw (drop-of-length-le vs h) refl in omega arith
 

@@ -52,7 +52,10 @@ returns-3 c =
 returns-4 : tie.Need-returns-4
 returns-4 c =
     let a = c .before .before .before .before .before .before .before .before .args in
-    sym (free-code (a .m) (a .g) (a .r) (a .lent) (record { accepted = ok (c .before .before .before .before .before .before); room = omega (arith, number (c .before), c .if3 .left, c .before .before .before .before .if2 .left) }))
+    sym (free-code (a .m) (a .g) (a .r) (a .lent) (record {
+      accepted = ok (c .before .before .before .before .before .before);
+      room = omega (arith, number (c .before), c .if3 .left, c .before .before .before .before .if2 .left);
+    }))
 
 pub code-of-spec : {M : Type 1} → statement M
 code-of-spec =

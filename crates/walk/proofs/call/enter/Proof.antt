@@ -32,7 +32,8 @@ same-length-4 c = search needs
 
 returns-2 : tie.Need-returns-2
 returns-2 c =
-    roomy _ _ (c .before .before .before .before .fill2 .ensures) (omega (arith, c .before .before .before .before .before .before .before .before .count .ensures, c .before .before .before .before .before .before .before .if2 .taken)) (c .before .before .before .before .before .before .before .before .before .before .before .before .pre .1 .1)
+    let k = c .before .before .before .before .before .before .before in
+    roomy _ _ (c .before .before .before .before .fill2 .ensures) (omega (arith, k .before .count .ensures, k .if2 .taken)) (k .before .before .before .before .before .pre .1 .1)
 
 returns-3 : tie.Need-returns-3
 returns-3 c = cramped _ _ (c .before .count .ensures) (omega (arith, c .if2 .left)) (c .before .before .before .before .before .pre .1 .1)
