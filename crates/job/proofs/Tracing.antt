@@ -13,13 +13,13 @@ use Rattle.ray.specs.declared.Ray.{Ray}
 use Rattle.ray.specs.Length.{volume, partOf, listOf}
 use Rattle.ray.specs.Codes.{gridRows, endRows}
 use Rattle.ray.proofs.Moved.{list-moved}
-use Rattle.walk.specs.Scene.{volumeOf, rayOf}
+use Rattle.line.specs.Scene.{volumeOf, rayOf}
+use Rattle.line.specs.Raised.{sceneOf}
+use Rattle.line.proofs.Raised.{tenths-small, able, moved}
 use Rattle.walk.proofs.Counts.{entries-few}
 use Rattle.tracing.specs.declared.Trace.{Trace}
 use Rattle.tracing.specs.Answer.{codeOf, refused, accepted, answerOf, voxelsAfter, partsAfter}
-use Rattle.tracing.specs.Inside.{sceneOf}
 use Rattle.tracing.proofs.Accepting.{at-ends, at-room}
-use Rattle.tracing.proofs.Raised.{tenths-small, able, moved}
 use Rattle.job.specs.Rays.{rayCode, traced, passed}
 use Rattle.job.specs.Sound.{Taken}
 use Rattle.job.proofs.Taking.{sides, few-planes}

@@ -50,7 +50,7 @@ mul-sum-2 c =
     let l = c .before .before .before .before .loop in
     let t = weighed-most (a .densities .now) (λ v. omega (arith, c .before .shared-slice-known2 .given v)) (a .voxels .now) (a .parts .now) in
     let s = c .before .before .before .before .before .pre .parts-size in
-    record { fits = omega (arith, fits (a .densities .now) (a .voxels .now) (a .parts .now) (l .sum) (l .i) (l .inv) (c .before .before .before .before .before .pre .lists) (c .before .before .before .loop-test .taken)) }
+    record { fits = omega (arith, fits (l .inv) (c .before .before .before .before .before .pre .lists) (c .before .before .before .loop-test .taken)) }
 
 add-sum : tie.Need-add-sum Inv-loop μ-loop
 add-sum c =
@@ -58,7 +58,7 @@ add-sum c =
     let l = c .before .before .before .before .loop in
     let t = weighed-most (a .densities .now) (λ v. omega (arith, c .before .shared-slice-known2 .given v)) (a .voxels .now) (a .parts .now) in
     let s = c .before .before .before .before .before .pre .parts-size in
-    record { fits = omega (arith, fits (a .densities .now) (a .voxels .now) (a .parts .now) (l .sum) (l .i) (l .inv) (c .before .before .before .before .before .pre .lists) (c .before .before .before .loop-test .taken)) }
+    record { fits = omega (arith, fits (l .inv) (c .before .before .before .before .before .pre .lists) (c .before .before .before .loop-test .taken)) }
 
 add-i : tie.Need-add-i Inv-loop μ-loop
 add-i c = search needs
@@ -67,16 +67,10 @@ loop-less : tie.Need-loop-less Inv-loop μ-loop
 loop-less c = omega (arith, c .before .before .before .loop-test .taken)
 
 loop-again : tie.Need-loop-again Inv-loop μ-loop
-loop-again c =
-    let a = c .before .before .before .before .before .args in
-    let l = c .before .before .before .before .loop in
-    one-weighed (a .densities .now) (a .voxels .now) (a .parts .now) (l .sum) (l .i) (l .inv) (c .before .before .before .before .before .pre .lists) (c .before .before .before .loop-test .taken)
+loop-again c = one-weighed (c .before .before .before .before .loop .inv) (c .before .before .before .before .before .pre .lists) (c .before .before .before .loop-test .taken)
 
 returns : tie.Need-returns Inv-loop μ-loop
-returns c =
-    let a = c .before .before .args in
-    let l = c .before .loop in
-    all-weighed (a .densities .now) (a .voxels .now) (a .parts .now) (l .sum) (l .i) (l .inv) (c .loop-test .left)
+returns c = all-weighed (c .before .loop .inv) (c .loop-test .left)
 
 pub weigh-spec : {M : Type 1} → statement M
 weigh-spec =
