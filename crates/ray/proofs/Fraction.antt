@@ -131,7 +131,7 @@ module _ {d : ℕ} {x : Fraction} {n : ℕ} (p : At d x n) where
   none : (a : ℕ) → x .num ≡ negsuc a → n ≡ 0
   none a e = eq-of-mul-eq-mul-right (x .den) (p .den-pos) n 0 (sym (p .at) ∙ ap (λ (z : ℤ). natural z * d) e ∙ zero-mul d ∙ sym (zero-mul (x .den)))
 
-  exact : Least0 x → Is d x n
+  pub exact : Least0 x → Is d x n
   exact z = record { d-pos = p .d-pos; den-pos = p .den-pos; is = ap (λ (t : ℤ). t *ℤ pos d) z ∙ ap pos (p .at) }
 
   pub above-zero : 0 < n → Is d x n
@@ -205,7 +205,7 @@ module _ {d : ℕ} {x y : Fraction} {n m : ℕ} (p : At d x n) (q : Is d y m) wh
         ∙ sym (sub-times n m (x .den * y .den));
   }
 
-lt-at : {d : ℕ} {x y : Fraction} {n m : ℕ} → Is d x n → At d y m → x <ᶠ y ≡ ltb n m
+pub lt-at : {d : ℕ} {x y : Fraction} {n m : ℕ} → Is d x n → At d y m → x <ᶠ y ≡ ltb n m
 lt-at {d} {x} {y} {n} {m} p q = lt-le (x .num *ℤ pos (y .den)) (y .num *ℤ pos (x .den)) ∙ ap not (le-at q p) ∙ sym (lt-not-le n m)
 
 -- strictly between

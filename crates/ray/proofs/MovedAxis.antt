@@ -16,7 +16,7 @@ module _ (k : ℤ) where
       ∙ +ℤ-assoc a k (negℤ k +ℤ negℤ b)
       ∙ ap (λ (z : ℤ). a +ℤ z) (sym (+ℤ-assoc k (negℤ k) (negℤ b)) ∙ ap (λ (z : ℤ). z +ℤ negℤ b) (+ℤ-invr k) ∙ +ℤ-idl (negℤ b))
 
-  le-on : (a b : ℤ) → leZ (a +ℤ k) (b +ℤ k) ≡ leZ a b
+  pub le-on : (a b : ℤ) → leZ (a +ℤ k) (b +ℤ k) ≡ leZ a b
   le-on a b = le-diff (a +ℤ k) (b +ℤ k) ∙ ap (λ (z : ℤ). leb (natural z) 0) (diff-on a b) ∙ sym (le-diff a b)
 
   lt-on : (a b : ℤ) → ltZ (a +ℤ k) (b +ℤ k) ≡ ltZ a b
