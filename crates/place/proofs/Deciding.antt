@@ -39,7 +39,7 @@ up-to-one a b t d D e h = le-of-mul-le-mul-right (omega (arith, e, mul-le-mul-ri
 -- over one d the fractions stand as what they are of it
 module _ {f h : Fraction} {a b d : ℕ} (F : Is f a d) (H : Is h b d) where
   pub below-is : below f h ≡ ltb a b
-  below-is = ray.lt-at d (F .at) (H .at) refl
+  below-is = ray.lt-at (ray.exact (F .at) refl) (H .at)
 
   greater-is : Is (greater f h) (max a b) d
   greater-is = elim (decLt a b) [
