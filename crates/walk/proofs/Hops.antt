@@ -5,7 +5,7 @@ use mathlib.Core.Bool.{Bool, true, false, cond}
 use native.Mathlib.Omega.{arith}
 use native.Mathlib.Nat.{mod-eq-of-lt, add-mod-right, add-mul, suc-mul, one-mul, mul-le-mul, mul-assoc}
 use Rattle.ray.specs.Length.{Side, X, Y, Z, Volume}
-use Rattle.line.proofs.Stretch.{onward}
+use Rattle.line.proofs.Stretch.{onward, Left}
 use Rattle.walk.specs.Plan.{unit}
 use Rattle.ray.proofs.Way.{Way, up, down, still}
 use Rattle.ray.proofs.Indices.{number}
@@ -15,11 +15,6 @@ abbrev pub Jump : Way → ℕ → ℕ → Type 0
 Jump up unit x = x ≡ unit
 Jump down unit x = x + unit ≡ 2 ^ 64
 Jump still unit x = Unit {0}
-
--- where an axis is left there is a next voxel, in the ray's way
-pub record Left (w : Way) (i : ℕ) : Type 0 where
-  pub moves : w ≡ still → ⊥
-  pub down-some : w ≡ down → 0 < i
 
 jump : (w : Way) (unit x base i : ℕ) → Jump w unit x → Left w i → base + i * unit + unit < 2 ^ 64 → (base + i * unit + x) % 2 ^ 64 ≡ base + onward w i * unit
 jump up unit x base i j l h = mod-eq-of-lt (omega arith) ∙ omega (arith, add-mul i 1 unit, one-mul unit)

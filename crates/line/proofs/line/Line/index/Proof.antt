@@ -1,6 +1,6 @@
 use native.Mathlib.Omega.{arith}
 use Rattle.ray.proofs.Way.{up, down, still}
-use Rattle.line.proofs.Index.{plane-zero, in-array, index-within}
+use Rattle.line.proofs.Steps.{plane-zero, in-array, index-within}
 use borrow.Author.Needs.{needs}
 use Rattle.line.proofs.line.Line.index.Statement.{statement}
 use Rattle.line.proofs.line.Line.index.Tie as tie
@@ -9,52 +9,55 @@ div-g : tie.Need-div-g
 div-g c = search needs
 
 add-result : tie.Need-add-result
-add-result c =
-    let h = in-array (c .before .before .before .args .self) (c .before .before .before .args .c) (c .before .before .before .args .t) up (c .before .if1 .taken) (c .before .before .before .pre .1) in
-    record { fits = omega (arith, h .1, c .before .before .before .pre .0 .far-size) }
+add-result c = let s = c .before .before .before in
+    let h = in-array (s .args .self) (s .args .c) (s .args .t) up (c .before .if1 .taken) (s .pre .1) in
+    record { fits = omega (arith, h .high, s .pre .0 .far-size) }
 
 sub-result : tie.Need-sub-result
-sub-result c =
-    let h = in-array (c .before .before .before .before .args .self) (c .before .before .before .before .args .c) (c .before .before .before .before .args .t) up (c .before .before .if1 .taken) (c .before .before .before .before .pre .1) in
-    omega (arith, h .0, h .1, plane-zero (c .before .before .before .before .args .self), c .before .before .before .before .pre .0 .p-size, c .before .before .before .before .pre .0 .far-size)
+sub-result c = let s = c .before .before .before .before in
+    let h = in-array (s .args .self) (s .args .c) (s .args .t) up (c .before .before .if1 .taken) (s .pre .1) in
+    omega (arith, h .low, h .high, plane-zero (s .args .self), s .pre .0 .p-size, s .pre .0 .far-size)
 
 div-result : tie.Need-div-result
 div-result c = search needs
 
 returns : tie.Need-returns
-returns c = index-within (c .before .before .before .before .before .args .self) (c .before .before .before .before .before .args .c) (c .before .before .before .before .before .args .t) up (c .before .before .before .if1 .taken) (c .before .before .before .before .before .pre .1) (c .before .before .before .before .before .pre .0 .wide)
+returns c = let s = c .before .before .before .before .before in
+    index-within (s .args .self) (s .args .c) (s .args .t) up (c .before .before .before .if1 .taken) (s .pre .1) (s .pre .0)
 
 sub-result-2 : tie.Need-sub-result-2
-sub-result-2 c =
-    let h = in-array (c .before .before .before .before .before .args .self) (c .before .before .before .before .before .args .c) (c .before .before .before .before .before .args .t) down (c .before .if2 .taken) (c .before .before .before .before .before .pre .1) in
-    omega (arith, h .0, h .1, plane-zero (c .before .before .before .before .before .args .self), c .before .before .before .before .before .pre .0 .p-size, c .before .before .before .before .before .pre .0 .far-size)
+sub-result-2 c = let s = c .before .before .before .before .before in
+    let h = in-array (s .args .self) (s .args .c) (s .args .t) down (c .before .if2 .taken) (s .pre .1) in
+    omega (arith, h .ahead)
 
 sub-result-3 : tie.Need-sub-result-3
-sub-result-3 c =
-    let h = in-array (c .before .before .before .before .before .args .self) (c .before .before .before .before .before .args .c) (c .before .before .before .before .before .args .t) down (c .before .if2 .taken) (c .before .before .before .before .before .pre .1) in
-    omega (arith, h .0, h .1, plane-zero (c .before .before .before .before .before .args .self), c .before .before .before .before .before .pre .0 .p-size, c .before .before .before .before .before .pre .0 .far-size)
+sub-result-3 c = let s = c .before .before .before .before .before in
+    let h = in-array (s .args .self) (s .args .c) (s .args .t) down (c .before .if2 .taken) (s .pre .1) in
+    omega (arith, h .ahead, s .pre .0 .p-size)
 
 sub-result-4 : tie.Need-sub-result-4
-sub-result-4 c =
-    let h = in-array (c .before .before .before .before .before .before .args .self) (c .before .before .before .before .before .before .args .c) (c .before .before .before .before .before .before .args .t) down (c .before .before .if2 .taken) (c .before .before .before .before .before .before .pre .1) in
-    omega (arith, h .0, h .1, plane-zero (c .before .before .before .before .before .before .args .self), c .before .before .before .before .before .before .pre .0 .p-size, c .before .before .before .before .before .before .pre .0 .far-size)
+sub-result-4 c = let s = c .before .before .before .before .before .before in
+    let h = in-array (s .args .self) (s .args .c) (s .args .t) down (c .before .before .if2 .taken) (s .pre .1) in
+    omega (arith, h .low, h .ahead, plane-zero (s .args .self), s .pre .0 .p-size)
 
 div-result-2 : tie.Need-div-result-2
 div-result-2 c = search needs
 
 returns-2 : tie.Need-returns-2
-returns-2 c = index-within (c .before .before .before .before .before .before .before .args .self) (c .before .before .before .before .before .before .before .args .c) (c .before .before .before .before .before .before .before .args .t) down (c .before .before .before .if2 .taken) (c .before .before .before .before .before .before .before .pre .1) (c .before .before .before .before .before .before .before .pre .0 .wide)
+returns-2 c = let s = c .before .before .before .before .before .before .before in
+    index-within (s .args .self) (s .args .c) (s .args .t) down (c .before .before .before .if2 .taken) (s .pre .1) (s .pre .0)
 
 sub-result-5 : tie.Need-sub-result-5
-sub-result-5 c =
-    let h = in-array (c .before .before .before .before .before .args .self) (c .before .before .before .before .before .args .c) (c .before .before .before .before .before .args .t) still (omega (arith, c .before .if2 .left, c .before .before .before .if1 .left)) (c .before .before .before .before .before .pre .1) in
-    omega (arith, h .0, h .1, plane-zero (c .before .before .before .before .before .args .self), c .before .before .before .before .before .pre .0 .p-size, c .before .before .before .before .before .pre .0 .far-size)
+sub-result-5 c = let s = c .before .before .before .before .before in
+    let h = in-array (s .args .self) (s .args .c) (s .args .t) still (omega (arith, c .before .if2 .left, c .before .before .before .if1 .left)) (s .pre .1) in
+    omega (arith, h .low, plane-zero (s .args .self))
 
 div-result-3 : tie.Need-div-result-3
 div-result-3 c = search needs
 
 returns-3 : tie.Need-returns-3
-returns-3 c = index-within (c .before .before .before .before .before .before .args .self) (c .before .before .before .before .before .before .args .c) (c .before .before .before .before .before .before .args .t) still (omega (arith, c .before .before .if2 .left, c .before .before .before .before .if1 .left)) (c .before .before .before .before .before .before .pre .1) (c .before .before .before .before .before .before .pre .0 .wide)
+returns-3 c = let s = c .before .before .before .before .before .before in
+    index-within (s .args .self) (s .args .c) (s .args .t) still (omega (arith, c .before .before .if2 .left, c .before .before .before .before .if1 .left)) (s .pre .1) (s .pre .0)
 
 pub index-spec : {M : Type 1} → statement M
 index-spec =
