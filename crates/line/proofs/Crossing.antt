@@ -10,11 +10,11 @@ use borrow.Author.Tests.{lt-ltb, le-ltb}
 use Rattle.ray.specs.Length.{total}
 use Rattle.ray.proofs.Total.{total-same, total-zero}
 use Rattle.line.specs.declared.line.Line.{Line}
-use Rattle.line.specs.Scene.{plane, Sized, entersAt, leavesAt, Within}
+use Rattle.line.specs.Scene.{plane, Sized, Within}
 use Rattle.line.specs.Reach.{crossAt, crossedOn}
 use Rattle.ray.proofs.Way.{Way, up, down, still, Goes}
-use Rattle.line.proofs.Units.{enterBy, leaveBy, moves, stays, run-up, run-down}
-use Rattle.line.proofs.Stretch.{plane-mono, wayOf, going, enters-by, leaves-by, one-voxel}
+use Rattle.line.proofs.Units.{moves, stays, run-up, run-down}
+use Rattle.line.proofs.Stretch.{plane-mono, wayOf, going, enter-voxel, leave-voxel, one-voxel}
 
 -- ---- the numbers above lo and not above hi, counted
 band : (lo hi n : ℕ) → total (λ i. cond (ltb lo i && not (ltb hi i)) 1 0) n ≡ min (hi + 1) n - (lo + 1)
@@ -70,33 +70,27 @@ module _ (a : Line) (c : ℕ) where
   down-fall m n h = mul-le-mul-right c (omega (arith, plane-mono a h))
 
   module _ (sized : Sized a) (from to i j : ℕ) (wi : Within a c from i) (wj : Within a c (to - 1) j) (h : from < to) where
-    enter : (w : Way) → Goes w (a .p) (a .q) → (k : ℕ) → entersAt a c k (k + 1) ≡ enterBy w (a .p) (plane a k) (plane a (k + 1)) * c
-    enter w g k = enters-by a c w g k (k + 1) (omega arith)
-
-    leave : (w : Way) → Goes w (a .p) (a .q) → (k : ℕ) → leavesAt a c k (k + 1) ≡ leaveBy w (a .p) (plane a k) (plane a (k + 1)) * c
-    leave w g k = leaves-by a c w g k (k + 1) (omega arith)
-
     -- before `to` is not after the tick before it
     before : (x : ℕ) → ltb x to ≡ not (ltb (to - 1) x)
     before x = elim (decLt x to) [ yes k ↦ rw (lt-ltb x to k, le-ltb (to - 1) x (omega arith)) | no k ↦ rw (le-ltb x to (omega arith), lt-ltb (to - 1) x (omega arith)) ]
 
     crossed-by : (w : Way) → Goes w (a .p) (a .q) → crossedOn a c from to ≡ (i - j) + (j - i)
     crossed-by up g =
-        let first = above up-key up-rise from i (omega (arith, enter up g i, wi .since)) (omega (arith, leave up g i, wi .until)) in
-        let last = above up-key up-rise (to - 1) j (omega (arith, enter up g j, wj .since)) (omega (arith, leave up g j, wj .until)) in
-        let order : i ≤ j = elim (decLe i j) [ yes k ↦ k | no k ↦ absurd (omega (arith, enter up g i, wi .since, leave up g j, wj .until, up-rise (j + 1) i (omega arith))) ] in
+        let first = above up-key up-rise from i (omega (arith, enter-voxel a c up g i, wi .since)) (omega (arith, leave-voxel a c up g i, wi .until)) in
+        let last = above up-key up-rise (to - 1) j (omega (arith, enter-voxel a c up g j, wj .since)) (omega (arith, leave-voxel a c up g j, wj .until)) in
+        let order : i ≤ j = elim (decLe i j) [ yes k ↦ k | no k ↦ absurd (omega (arith, enter-voxel a c up g i, wi .since, leave-voxel a c up g j, wj .until, up-rise (j + 1) i (omega arith))) ] in
         counted (crossAt a c from to) i j (a .n + 1) (omega (arith, wj .inside))
         (λ m. rw (moves (a .p) (a .q) (omega arith), run-up (a .p) (a .q) (plane a m) g, first m, before (up-key m), last m) refl)
         ∙ omega arith
     crossed-by down g =
-        let first = above-down down-key down-fall from i (omega (arith, enter down g i, wi .since)) (omega (arith, leave down g i, wi .until)) in
-        let last = above-down down-key down-fall (to - 1) j (omega (arith, enter down g j, wj .since)) (omega (arith, leave down g j, wj .until)) in
-        let order : j ≤ i = elim (decLe j i) [ yes k ↦ k | no k ↦ absurd (omega (arith, enter down g i, wi .since, leave down g j, wj .until, down-fall (i + 1) j (omega arith))) ] in
+        let first = above-down down-key down-fall from i (omega (arith, enter-voxel a c down g i, wi .since)) (omega (arith, leave-voxel a c down g i, wi .until)) in
+        let last = above-down down-key down-fall (to - 1) j (omega (arith, enter-voxel a c down g j, wj .since)) (omega (arith, leave-voxel a c down g j, wj .until)) in
+        let order : j ≤ i = elim (decLe j i) [ yes k ↦ k | no k ↦ absurd (omega (arith, enter-voxel a c down g i, wi .since, leave-voxel a c down g j, wj .until, down-fall (i + 1) j (omega arith))) ] in
         counted (crossAt a c from to) j i (a .n + 1) (omega (arith, wi .inside))
         (λ m. rw (moves (a .p) (a .q) (omega arith), run-down (a .p) (a .q) (plane a m) g, first m, before (down-key m), last m) (turned (ltb i m) (ltb j m)))
         ∙ omega arith
     crossed-by still g =
-        let none : (k t : ℕ) → Within a c t k → Within a c 0 k = λ k t v. record { inside = v .inside; holds = v .holds; since = omega (arith, enter still g k, zero-mul c); until = omega (arith, v .until) } in
+        let none : (k t : ℕ) → Within a c t k → Within a c 0 k = λ k t v. record { inside = v .inside; holds = v .holds; since = omega (arith, enter-voxel a c still g k, zero-mul c); until = omega (arith, v .until) } in
         let same : i ≡ j = one-voxel a sized c 0 (none i from wi) (none j (to - 1) wj) in
         total-zero (λ m. cond (crossAt a c from to m) 1 0) (a .n + 1) (λ m k. rw (stays (a .p) (a .q) g) refl) ∙ omega arith
 

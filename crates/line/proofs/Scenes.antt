@@ -11,6 +11,7 @@ use Rattle.ray.specs.Length.{Side, X, Y, Z, leg, rest, Volume, index, voxel, ho
 use Rattle.line.specs.declared.scene.Scene.{Scene}
 use Rattle.line.specs.Scene.{legN, plane, line, volumeOf, rayOf, entersAt, leavesAt, heldAt}
 use Rattle.ray.proofs.Way.{Way}
+use Rattle.line.proofs.Three.{each}
 use Rattle.line.proofs.Stretch.{plane-mono, wayOf}
 
 -- a box is held on every side, or not at all
@@ -30,9 +31,7 @@ module _ (s : Scene) where
   way o = wayOf (line s o)
 
   pub leg-is : (o : Side) → leg ray o ≡ legN (line s o .p) (line s o .q)
-  leg-is X = refl
-  leg-is Y = refl
-  leg-is Z = refl
+  leg-is = each _ refl refl refl
 
   pub scene-rise : Rise vol
   scene-rise o i h = le-leb (plane (line s o) i) (plane (line s o) (i + 1)) (plane-mono (line s o) (omega arith))

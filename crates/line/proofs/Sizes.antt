@@ -1,8 +1,7 @@
 -- Every product of a scene's numbers fits 64 bits. Assumes nothing.
 use Prim.Native.Nat.{ℕ, _*_, _^_, _≤_, _<_}
-use mathlib.Core.Path.{_≡_}
 use native.Mathlib.Omega.{arith}
-use native.Mathlib.Nat.{mul-le-mul, mul-one}
+use native.Mathlib.Nat.{mul-le-mul}
 use Rattle.axis.specs.Leg.{factor}
 use Rattle.line.specs.declared.line.Line.{Line}
 use Rattle.line.specs.Scene.{legN, plane, Sized, entersAt, leavesAt}
@@ -40,13 +39,8 @@ module _ (a : Line) (sized : Sized a) where
     leave-by down = omega (arith, sized .p-size)
     leave-by still = omega arith
 
-    -- units that make these ticks at every c are few
-    pub enter-size : (r : ℕ) → ((c : ℕ) → r * c ≡ entersAt a c i j) → r ≤ 2 ^ 20
-    enter-size r e = omega (arith, mul-one r, e 1, enters-by a 1 (wayOf a) (going a) i j h, enter-by (wayOf a))
+    pub enter-ticks : {c : ℕ} → c ≤ 2 ^ 40 → entersAt a c i j ≤ 2 ^ 60
+    enter-ticks {c} few = rw (enters-by a c (wayOf a) (going a) i j h) (three-sizes (enter-by (wayOf a)) few)
 
-    pub leave-size : (r : ℕ) → ((c : ℕ) → r * c ≡ leavesAt a c i j) → r ≤ 2 ^ 20
-    leave-size r e = omega (arith, mul-one r, e 1, leaves-by a 1 (wayOf a) (going a) i j h, leave-by (wayOf a))
-
-    -- and the ticks themselves
-    pub leave-ticks : (c : ℕ) → c ≤ 2 ^ 40 → leavesAt a c i j ≤ 2 ^ 60
-    leave-ticks c few = rw (leaves-by a c (wayOf a) (going a) i j h) (three-sizes (leave-by (wayOf a)) few)
+    pub leave-ticks : {c : ℕ} → c ≤ 2 ^ 40 → leavesAt a c i j ≤ 2 ^ 60
+    leave-ticks {c} few = rw (leaves-by a c (wayOf a) (going a) i j h) (three-sizes (leave-by (wayOf a)) few)

@@ -9,7 +9,7 @@ use Rattle.line.specs.declared.line.Line.{Line}
 use Rattle.line.specs.Scene.{plane, Sized, leavesAt, Window, Within}
 use Rattle.ray.proofs.Way.{Way, up, down, still, Goes}
 use Rattle.line.proofs.Units.{enterBy, leaveBy, HeldBy, held-by, by-held}
-use Rattle.line.proofs.Stretch.{wayOf, going, enters-by, leaves-by, onward, Left, both-some}
+use Rattle.line.proofs.Stretch.{wayOf, going, enters-by, leaves-by, enter-voxel, leave-voxel, onward, Left, both-some}
 
 plane-next : (a : Line) (i : ℕ) → plane a (i + 1) ≡ plane a i + a .d
 plane-next a i = omega (arith, add-mul i 1 (a .d), one-mul (a .d))
@@ -28,9 +28,9 @@ module _ (a : Line) (i : ℕ) where
   pub stride : (c : ℕ) → Left (wayOf a) i → 0 < leavesAt a c i (i + 1) → leavesAt a c (onward (wayOf a) i) (onward (wayOf a) i + 1) ≡ leavesAt a c i (i + 1) + a .d * c
   stride c l s =
       let w = wayOf a in
-      let left = leaves-by a c w (going a) i (i + 1) (omega arith) in
+      let left = leave-voxel a c w (going a) i in
       let some = both-some (leaveBy w (a .p) (plane a i) (plane a (i + 1))) c (omega arith) in
-      leaves-by a c w (going a) (onward w i) (onward w i + 1) (omega arith) ∙ ap (λ (x : ℕ). x * c) (step-unit w l (some .0))
+      leave-voxel a c w (going a) (onward w i) ∙ ap (λ (x : ℕ). x * c) (step-unit w l (some .0))
       ∙ add-mul (leaveBy w (a .p) (plane a i) (plane a (i + 1))) (a .d) c ∙ ap (λ (x : ℕ). x + a .d * c) (sym left)
 
 -- ---- the voxel of the axis that holds a tick
@@ -102,6 +102,6 @@ module _ (a : Line) (c t : ℕ) (w : Way) (g : Goes w (a .p) (a .q)) (window : W
       record {
         inside = k .2;
         holds = by-held w (a .p) (a .q) (plane a i) (plane a (i + 1)) g (s .0);
-        since = rw (enters-by a c w g i (i + 1) (omega arith)) (ticks-le _ c t (window .some) (s .1));
-        until = rw (leaves-by a c w g i (i + 1) (omega arith)) (div-lt-iff-lt-mul (window .some) .0 (s .2));
+        since = rw (enter-voxel a c w g i) (ticks-le _ c t (window .some) (s .1));
+        until = rw (leave-voxel a c w g i) (div-lt-iff-lt-mul (window .some) .0 (s .2));
       }

@@ -26,12 +26,19 @@ wayOf a = goes (a .p) (a .q) .0
 pub going : (a : Line) → Goes (wayOf a) (a .p) (a .q)
 going a = goes (a .p) (a .q) .1
 
-module _ (a : Line) (c : ℕ) (w : Way) (g : Goes w (a .p) (a .q)) (i j : ℕ) (h : i ≤ j) where
-  pub enters-by : entersAt a c i j ≡ enterBy w (a .p) (plane a i) (plane a j) * c
-  enters-by = enters-is w (a .p) (a .q) (plane a i) (plane a j) c g (plane-mono a h)
+module _ (a : Line) (c : ℕ) (w : Way) (g : Goes w (a .p) (a .q)) where
+  module _ (i j : ℕ) (h : i ≤ j) where
+    pub enters-by : entersAt a c i j ≡ enterBy w (a .p) (plane a i) (plane a j) * c
+    enters-by = enters-is w (a .p) (a .q) (plane a i) (plane a j) c g (plane-mono a h)
 
-  pub leaves-by : leavesAt a c i j ≡ leaveBy w (a .p) (plane a i) (plane a j) * c
-  leaves-by = leaves-is w (a .p) (a .q) (plane a i) (plane a j) c g (plane-mono a h)
+    pub leaves-by : leavesAt a c i j ≡ leaveBy w (a .p) (plane a i) (plane a j) * c
+    leaves-by = leaves-is w (a .p) (a .q) (plane a i) (plane a j) c g (plane-mono a h)
+
+  pub enter-voxel : (i : ℕ) → entersAt a c i (i + 1) ≡ enterBy w (a .p) (plane a i) (plane a (i + 1)) * c
+  enter-voxel i = enters-by i (i + 1) (omega arith)
+
+  pub leave-voxel : (i : ℕ) → leavesAt a c i (i + 1) ≡ leaveBy w (a .p) (plane a i) (plane a (i + 1)) * c
+  leave-voxel i = leaves-by i (i + 1) (omega arith)
 
 -- a voxel's stretch lies within the array's
 module _ (a : Line) (c i : ℕ) (h : i < a .n) where
@@ -45,10 +52,10 @@ module _ (a : Line) (c i : ℕ) (h : i < a .n) where
   last = plane-mono a (omega arith)
 
   pub enter-whole : entersAt a c 0 (a .n) ≤ entersAt a c i (i + 1)
-  enter-whole = rw (enters-by a c w (going a) 0 (a .n) (omega arith), enters-by a c w (going a) i (i + 1) (omega arith)) (mul-le-mul-right c (enter-within w (a .p) first last))
+  enter-whole = rw (enters-by a c w (going a) 0 (a .n) (omega arith), enter-voxel a c w (going a) i) (mul-le-mul-right c (enter-within w (a .p) first last))
 
   pub leave-whole : leavesAt a c i (i + 1) ≤ leavesAt a c 0 (a .n)
-  leave-whole = rw (leaves-by a c w (going a) 0 (a .n) (omega arith), leaves-by a c w (going a) i (i + 1) (omega arith)) (mul-le-mul-right c (leave-within w (a .p) first last))
+  leave-whole = rw (leaves-by a c w (going a) 0 (a .n) (omega arith), leave-voxel a c w (going a) i) (mul-le-mul-right c (leave-within w (a .p) first last))
 
 pub held-whole : (a : Line) (i : ℕ) → i < a .n → heldAt a i (i + 1) ≡ true → heldAt a 0 (a .n) ≡ true
 held-whole a i h k =
@@ -61,8 +68,8 @@ module _ (a : Line) (sized : Sized a) (c t : ℕ) where
 
   apart-at : {i j : ℕ} → i < j → Within a c t i → Within a c t j → ⊥
   apart-at {i} {j} h x y =
-      let enter : (k : ℕ) → entersAt a c k (k + 1) ≡ enterBy (wayOf a) (a .p) (plane a k) (plane a (k + 1)) * c = λ k. enters-by a c (wayOf a) (going a) k (k + 1) (omega arith) in
-      let leave : (k : ℕ) → leavesAt a c k (k + 1) ≡ leaveBy (wayOf a) (a .p) (plane a k) (plane a (k + 1)) * c = λ k. leaves-by a c (wayOf a) (going a) k (k + 1) (omega arith) in
+      let enter = enter-voxel a c (wayOf a) (going a) in
+      let leave = leave-voxel a c (wayOf a) (going a) in
       ⊎-elim (λ k. omega (arith, mul-le-mul-right c k, leave i, enter j, x .until, y .since)) (λ k. omega (arith, mul-le-mul-right c k, leave j, enter i, y .until, x .since))
       (apart (wayOf a) (a .p) (plane-less a sized i) (plane-less a sized j) (plane-mono a (omega arith)) (held-in i x) (held-in j y))
 
@@ -123,17 +130,17 @@ module _ (a : Line) (sized : Sized a) (i : ℕ) (h : i < a .n) where
   next c s l =
       let w = wayOf a in
       let g = going a in
-      let left : leavesAt a c i (i + 1) ≡ here w * c = leaves-by a c w g i (i + 1) (omega arith) in
+      let left : leavesAt a c i (i + 1) ≡ here w * c = leave-voxel a c w g i in
       let some = both-some (here w) c (omega arith) in
       let u = next-unit w (some .0) (lt-of-mul-lt-mul-right c (omega (arith, leaves-by a c w g 0 (a .n) (omega arith)))) in
-      let enter : entersAt a c (onward w i) (onward w i + 1) ≡ leavesAt a c i (i + 1) = enters-by a c w g (onward w i) (onward w i + 1) (omega arith) ∙ ap (λ (x : ℕ). x * c) (u .2) ∙ sym left in
+      let enter : entersAt a c (onward w i) (onward w i + 1) ≡ leavesAt a c i (i + 1) = enter-voxel a c w g (onward w i) ∙ ap (λ (x : ℕ). x * c) (u .2) ∙ sym left in
       record {
         left = u .0;
         within = record {
           inside = u .1;
           holds = by-held w (a .p) (a .q) (plane a (onward w i)) (plane a (onward w i + 1)) g (held-moving w _ _ _ (u .0 .moves));
           since = le-of-eq enter;
-          until = omega (arith, mul-lt-mul-of-pos-right (u .3) (some .1), leaves-by a c w g (onward w i) (onward w i + 1) (omega arith));
+          until = omega (arith, mul-lt-mul-of-pos-right (u .3) (some .1), leave-voxel a c w g (onward w i));
         };
         enters = enter;
       }

@@ -15,9 +15,9 @@ use Rattle.ray.proofs.After.{after, none-after, one-after}
 use Rattle.line.specs.declared.line.Line.{Line}
 use Rattle.line.specs.declared.scene.Scene.{Scene}
 use Rattle.line.specs.Scene.{legN, plane, line, Able, leavesAt, Within}
-use Rattle.line.proofs.Units.{leaveBy, moves, stays, run-up, run-down}
+use Rattle.line.proofs.Units.{moves, stays, run-up, run-down}
 use Rattle.line.proofs.Three.{least-le, least-one}
-use Rattle.line.proofs.Stretch.{going, enters-by, leaves-by}
+use Rattle.line.proofs.Stretch.{going, enter-voxel, leave-voxel}
 use Rattle.line.proofs.Crossing.{up-rise, down-fall}
 use Rattle.line.proofs.Scenes.{vol, ray, way, leg-is, leave}
 use Rattle.walk.specs.declared.steps.Walk.{Walk}
@@ -44,25 +44,22 @@ module _ (a : Line) (c : ℕ) where
   abbrev tick : ℕ → ℕ
   tick m = run (legN (a .p) (a .q)) (pos (plane a m)) * c
 
-  leave-at : (w : Way) (i : ℕ) → Goes w (a .p) (a .q) → leavesAt a c i (i + 1) ≡ leaveBy w (a .p) (plane a i) (plane a (i + 1)) * c
-  leave-at w i g = leaves-by a c w g i (i + 1) (omega arith)
-
   -- the plane by which a moving axis leaves a voxel is met there
   left-by : (w : Way) (i : ℕ) → Goes w (a .p) (a .q) → (w ≡ still → ⊥) → (moving (legN (a .p) (a .q)) ≡ true) × (tick (far w i) ≡ leavesAt a c i (i + 1))
-  left-by up i g m = (moves (a .p) (a .q) (λ e. omega arith), ap (λ (x : ℕ). x * c) (run-up (a .p) (a .q) (plane a (i + 1)) g) ∙ sym (leave-at up i g))
-  left-by down i g m = (moves (a .p) (a .q) (λ e. omega arith), ap (λ (x : ℕ). x * c) (run-down (a .p) (a .q) (plane a i) g) ∙ sym (leave-at down i g))
+  left-by up i g m = (moves (a .p) (a .q) (λ e. omega arith), ap (λ (x : ℕ). x * c) (run-up (a .p) (a .q) (plane a (i + 1)) g) ∙ sym (leave-voxel a c up g i))
+  left-by down i g m = (moves (a .p) (a .q) (λ e. omega arith), ap (λ (x : ℕ). x * c) (run-down (a .p) (a .q) (plane a i) g) ∙ sym (leave-voxel a c down g i))
   left-by still i g m = absurd (m refl)
 
   -- a plane that is met after the ray came into a voxel is not met before the ray leaves it
   not-before : (w : Way) (i m t : ℕ) → Goes w (a .p) (a .q) → moving (legN (a .p) (a .q)) ≡ true → Within a c t i → t < tick m → leavesAt a c i (i + 1) ≤ tick m
   not-before up i m t g on v l =
       let k : tick m ≡ (plane a m - a .p) * c = ap (λ (x : ℕ). x * c) (run-up (a .p) (a .q) (plane a m) g) in
-      let e = enters-by a c up g i (i + 1) (omega arith) in
-      elim (decLe m i) [ yes h ↦ absurd (omega (arith, v .since, up-rise a c m i h)) | no h ↦ omega (arith, leave-at up i g, up-rise a c (i + 1) m (omega arith)) ]
+      let e = enter-voxel a c up g i in
+      elim (decLe m i) [ yes h ↦ absurd (omega (arith, v .since, up-rise a c m i h)) | no h ↦ omega (arith, leave-voxel a c up g i, up-rise a c (i + 1) m (omega arith)) ]
   not-before down i m t g on v l =
       let k : tick m ≡ (a .p - plane a m) * c = ap (λ (x : ℕ). x * c) (run-down (a .p) (a .q) (plane a m) g) in
-      let e = enters-by a c down g i (i + 1) (omega arith) in
-      elim (decLe m i) [ yes h ↦ omega (arith, leave-at down i g, down-fall a c m i h) | no h ↦ absurd (omega (arith, v .since, down-fall a c (i + 1) m (omega arith))) ]
+      let e = enter-voxel a c down g i in
+      elim (decLe m i) [ yes h ↦ omega (arith, leave-voxel a c down g i, down-fall a c m i h) | no h ↦ absurd (omega (arith, v .since, down-fall a c (i + 1) m (omega arith))) ]
   not-before still i m t g on v l = off-or-on (moving (legN (a .p) (a .q))) on (stays (a .p) (a .q) g)
 
 module _ {s : Scene} (able : Able s) where

@@ -4,7 +4,7 @@ use mathlib.Core.Path.{_≡_, refl, sym, ap, _∙_}
 use mathlib.Core.Bool.{true, false, _||_, not}
 use mathlib.Core.List.{map}
 use native.Mathlib.Omega.{arith}
-use native.Mathlib.Nat.{le-antisymm, le-of-eq, le-of-lt, le-trans, lt-of-lt-of-le, lt-of-le-of-lt, mul-pos, mul-le-mul}
+use native.Mathlib.Nat.{le-antisymm, le-of-eq, le-of-lt, le-trans, lt-of-lt-of-le, lt-of-le-of-lt, mul-pos}
 use borrow.Author.Tests.{leb-false, not-true, not-false}
 use lib.Dec.{leb}
 use Rattle.axis.specs.Leg.{factor}
@@ -24,9 +24,9 @@ use Rattle.line.proofs.Scenes.{way, leg-is, enter, leave, all-held}
 use Rattle.walk.specs.declared.steps.Walk.{Walk}
 use Rattle.walk.specs.declared.steps.Strides.{Strides}
 use Rattle.walk.specs.declared.plan.Frame.{Frame}
-use Rattle.walk.specs.Model.{stepOf, jumpOf, Forward}
+use Rattle.walk.specs.Model.{jumpOf, Forward}
 use Rattle.walk.specs.Plan.{restOf, Framed, unit, Strided, Begun, Planned}
-use Rattle.walk.proofs.Hops.{Jump}
+use Rattle.walk.proofs.Hops.{Jump, unit-small}
 use Rattle.walk.proofs.Walking.{Paced, Inside, Walking, under-least, cut-le, soon-later}
 use Rattle.walk.proofs.Found.{found-list, found-parts}
 
@@ -53,7 +53,7 @@ module _ {s : Scene} (able : Able s) where
   unit-some = each _ (omega arith) (able .sized X .some) (mul-pos (able .sized Y .some) (able .sized X .some))
 
   pub unit-few : (o : Side) → unit (volumeOf s) o ≤ 2 ^ 18
-  unit-few = each _ (omega arith) (omega (arith, able .sized X .n-size)) (mul-le-mul {n₂ = 2 ^ 9} {m₂ = 2 ^ 9} (able .sized Y .n-size) (able .sized X .n-size))
+  unit-few = unit-small (volumeOf s) (λ o. able .sized o .n-size)
 
   module _ {f : Frame} (framed : Framed s f) where
     pub few : (o : Side) → restOf f o ≤ 2 ^ 40

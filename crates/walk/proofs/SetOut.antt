@@ -6,13 +6,15 @@ use mathlib.Core.Bool.{true, false, not, cond}
 use native.Mathlib.Omega.{arith}
 use lib.Dec.{ltb}
 use borrow.Author.Tests.{lt-ltb, le-ltb}
-use Rattle.ray.specs.Length.{Side, X, Y, Z, rest, dOf, array, start, stop, misses}
+use Rattle.ray.specs.Length.{Side, X, Y, Z, rest, dOf, array, start, stop, misses, crossedOf}
 use Rattle.line.specs.declared.scene.Scene.{Scene}
 use Rattle.line.specs.Scene.{line, volumeOf, rayOf, Able, leavesAt, Within}
+use Rattle.line.specs.Reach.{crossedOn}
 use Rattle.line.proofs.Three.{each}
 use Rattle.line.proofs.Stretch.{going}
 use Rattle.line.proofs.Steps.{indexBy, index-within}
 use Rattle.line.proofs.Sizes.{leave-ticks}
+use Rattle.line.proofs.Crossing.{crossed-is}
 use Rattle.line.proofs.Scenes.{way}
 use Rattle.walk.specs.declared.steps.Walk.{Walk}
 use Rattle.walk.specs.declared.steps.Strides.{Strides}
@@ -20,7 +22,7 @@ use Rattle.walk.specs.declared.plan.Frame.{Frame}
 use Rattle.walk.specs.Model.{Forward}
 use Rattle.walk.specs.Plan.{restOf, Framed, unit, Strided, Begun}
 use Rattle.walk.proofs.Walking.{Paced, Walking}
-use Rattle.walk.proofs.Plans.{unit-few, few, windows, proper, walking, paced, forward}
+use Rattle.walk.proofs.Plans.{unit-few, few, windows, proper, walking, paced, forward, crossed-all}
 
 pub record SetOut (s : Scene) : Type 0 where
   pub walk : Walk
@@ -32,7 +34,7 @@ pub record SetOut (s : Scene) : Type 0 where
   pub tick : walk .t ≡ start (rayOf s) (array (volumeOf s))
 
 -- the definitions themselves make a frame
-abbrev pub frame : Scene → Frame
+abbrev frame : Scene → Frame
 frame s = record {
   cx = rest (rayOf s) X;
   cy = rest (rayOf s) Y;
@@ -43,7 +45,7 @@ frame s = record {
   hit = not (misses (volumeOf s) (rayOf s));
 }
 
-pub framed : (s : Scene) → Framed s (frame s)
+framed : (s : Scene) → Framed s (frame s)
 framed s = record { rests = each _ refl refl refl; denominator-is = refl; from-is = refl; to-is = refl; hit-is = refl }
 
 -- one voxel on, and one back
@@ -76,17 +78,17 @@ module _ {s : Scene} (able : Able s) where
   }
 
   module _ (hit : misses (volumeOf s) (rayOf s) ≡ false) where
-    pub hits : frame s .hit ≡ true
+    hits : frame s .hit ≡ true
     hits = rw hit refl
 
-    pub from-to : frame s .from < frame s .to
+    from-to : frame s .from < frame s .to
     from-to = proper able (framed s) hits
 
     -- on each axis the voxel of a tick at which the ray is in the array
-    abbrev pub index : ℕ → Side → ℕ
+    abbrev index : ℕ → Side → ℕ
     index t o = indexBy (way s o) (line s o) (restOf (frame s) o) t
 
-    pub within : (t : ℕ) → frame s .from ≤ t → t < frame s .to → (o : Side) → Within (line s o) (restOf (frame s) o) t (index t o)
+    within : (t : ℕ) → frame s .from ≤ t → t < frame s .to → (o : Side) → Within (line s o) (restOf (frame s) o) t (index t o)
     within t a b o = index-within (line s o) (restOf (frame s) o) t (way s o) (going (line s o)) (windows able (framed s) hits o t a b) (able .sized o)
 
     abbrev at : Side → ℕ
@@ -99,7 +101,7 @@ module _ {s : Scene} (able : Able s) where
     leave o = leavesAt (line s o) (restOf (frame s) o) (at o) (at o + 1)
 
     leave-few : (o : Side) → leave o ≤ 2 ^ 60
-    leave-few o = leave-ticks (line s o) (able .sized o) (omega arith) (omega (arith, first-within o .inside)) (restOf (frame s) o) (few able (framed s) o)
+    leave-few o = leave-ticks (line s o) (able .sized o) (omega arith) (omega (arith, first-within o .inside)) (few able (framed s) o)
 
     first : Begun s (frame s) (record { x = leave X; y = leave Y; z = leave Z; v = (at Z * s .y .n + at Y) * s .x .n + at X; t = frame s .from })
     first = record {
@@ -121,3 +123,20 @@ module _ {s : Scene} (able : Able s) where
       ahead = forward able (framed s) hits first pacing;
       tick = refl;
     }
+
+    -- ---- between the voxel that the ray comes in by and the one it goes out by, an axis has fewer planes than voxels
+    abbrev on : Side → ℕ
+    on o = crossedOn (line s o) (restOf (frame s) o) (frame s .from) (frame s .to)
+
+    apart : (i j k n : ℕ) → i < n → j < n → (i - j) + (j - i) ≡ k → k + 1 ≤ n
+    apart i j k n a b e = omega arith
+
+    on-few : (o : Side) → on o + 1 ≤ line s o .n
+    on-few o =
+        let some = from-to in
+        let last = within (frame s .to - 1) (omega arith) (omega arith) o in
+        apart _ _ (on o) (line s o .n) (first-within o .inside) (last .inside)
+        (crossed-is (line s o) (restOf (frame s) o) (able .sized o) (frame s .from) (frame s .to) _ _ (first-within o) last some)
+
+    pub few-planes : crossedOf (volumeOf s) (rayOf s) + 3 ≤ s .x .n + s .y .n + s .z .n
+    few-planes = omega (arith, on-few X, on-few Y, on-few Z, crossed-all (on X) (on Y) (on Z) (framed s) hits refl refl refl)

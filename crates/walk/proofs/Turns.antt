@@ -1,18 +1,41 @@
 -- The model's entries, turn by turn, and what a loop that makes them keeps. Assumes nothing.
 use Prim.Native.Nat.{ℕ, zero, suc, _+_, _-_, _^_, _%_, _≤_, _<_}
 use mathlib.Core.Path.{_≡_, refl, sym, ap, _∙_}
+use mathlib.Core.Bool.{Bool, true, false, cond}
 use mathlib.Core.List.{List, [], _∷_, _++_, append-assoc, append-nil}
 use native.Mathlib.Omega.{arith}
 use native.Mathlib.Decide.{decLe, ℕ-discrete}
 use native.Mathlib.Numerals.{add-one}
+use lib.Dec.{eqb}
 use lib.ListN.{length, take, drop, set, length-set, length-map}
 use lib.Seq.{take-suc-set, drop-set-lt, drop-drop}
 use borrow.Author.Tests.{le-leb, lt-leb, eq-eqb, ne-eqb}
 use Rattle.ray.specs.Length.{Side, X, Y, Z}
-use Rattle.line.proofs.Three.{least-le, lt-least}
+use Rattle.line.proofs.Three.{each, least-le, lt-least}
 use Rattle.walk.specs.declared.steps.Walk.{Walk}
 use Rattle.walk.specs.declared.steps.Strides.{Strides}
-use Rattle.walk.specs.Model.{leaveOf, stepOf, soonest, next, further, stepped, Entry, entry, voxels, parts, go, entries, Forward, Filled}
+use Rattle.walk.specs.Model.{leaveOf, soonest, next, further, stepped, Entry, entry, voxels, parts, go, entries, Forward, Filled}
+
+-- whether an axis is left at u, or later
+abbrev At : Bool → ℕ → ℕ → Type 0
+At true leave u = leave ≡ u
+At false leave u = u < leave
+
+at-is : (b : Bool) (leave u : ℕ) → At b leave u → eqb leave u ≡ b
+at-is true leave u h = eq-eqb leave u h
+at-is false leave u h = ne-eqb leave u (omega arith)
+
+-- the turn, once it is known which axes are left at u
+pub step-is : (s : Strides) (w : Walk) (u : ℕ) (bx by bz : Bool) → soonest w ≡ u → At bx (w .x) u → At by (w .y) u → At bz (w .z) u
+    → _≡_ {A = Walk} (record {
+      x = cond bx (next s w X) (w .x);
+      y = cond by (next s w Y) (w .y);
+      z = cond bz (next s w Z) (w .z);
+      v = let vx : ℕ = cond bx ((w .v + s .vx) % 2 ^ 64) (w .v) in let vy : ℕ = cond by ((vx + s .vy) % 2 ^ 64) vx in cond bz ((vy + s .vz) % 2 ^ 64) vy;
+      t = u;
+    }) (stepped s w)
+unfolding stepped
+step-is s w u bx by bz e ex ey ez = rw (e, at-is bx (w .x) u ex, at-is by (w .y) u ey, at-is bz (w .z) u ez) refl
 
 pub step-tick : (s : Strides) (w : Walk) → stepped s w .t ≡ soonest w
 unfolding stepped
@@ -20,9 +43,7 @@ step-tick s w = refl
 
 pub step-leave : (s : Strides) (w : Walk) (o : Side) → leaveOf (stepped s w) o ≡ further s w (soonest w) o
 unfolding stepped
-step-leave s w X = refl
-step-leave s w Y = refl
-step-leave s w Z = refl
+step-leave s w = each _ refl refl refl
 
 module _ {s : Strides} {to : ℕ} {w : Walk} (f : Forward s to w) where
   further-later : (o : Side) → soonest w < further s w (soonest w) o

@@ -7,7 +7,7 @@ use native.Mathlib.Omega.{arith}
 use native.Mathlib.Nat.{le-antisymm, le-of-eq, le-trans, lt-of-lt-of-le, lt-of-le-of-lt, mod-eq-of-lt}
 use lib.Dec.{eqb}
 use borrow.Author.Tests.{eq-eqb, eqb-true, eqb-false}
-use Rattle.ray.specs.Length.{Side, X, Y, Z, rest, dOf, count, array, index, voxel, start, stop, partOf}
+use Rattle.ray.specs.Length.{Side, rest, dOf, count, array, index, voxel, start, stop, partOf}
 use Rattle.ray.proofs.Indices.{number, index-number, number-below, index-below, index-same}
 use Rattle.line.specs.declared.scene.Scene.{Scene}
 use Rattle.line.specs.Scene.{line, Able, Within}

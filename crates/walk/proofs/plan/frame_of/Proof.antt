@@ -23,38 +23,23 @@ module _ (c : tie.After-factor3) where
   able : Able s
   able = c .before .before .before .before .before .before .pre
 
-  abbrev fx : ℕ
-  fx = c .before .before .factor .result
+  abbrev f : Side → ℕ
+  f = each _ (c .before .before .factor .result) (c .before .factor2 .result) (c .factor3 .result)
 
-  abbrev fy : ℕ
-  fy = c .before .factor2 .result
+  are : (o : Side) → f o ≡ factor (leg (rayOf s) o)
+  are = each _ (c .before .before .factor .ensures) (c .before .factor2 .ensures) (c .factor3 .ensures)
 
-  abbrev fz : ℕ
-  fz = c .factor3 .result
+  abbrev c-of : Side → ℕ
+  c-of = each _ (f Y * f Z) (f X * f Z) (f X * f Y)
 
-  is-x : fx ≡ factor (leg (rayOf s) X)
-  is-x = c .before .before .factor .ensures
+  rests : (o : Side) → c-of o ≡ rest (rayOf s) o
+  rests = each _ (times (are Y) (are Z)) (times (are X) (are Z)) (times (are X) (are Y))
 
-  is-y : fy ≡ factor (leg (rayOf s) Y)
-  is-y = c .before .factor2 .ensures
+  d-is : f X * (f Y * f Z) ≡ dOf (rayOf s)
+  d-is = times (are X) (rests X)
 
-  is-z : fz ≡ factor (leg (rayOf s) Z)
-  is-z = c .factor3 .ensures
-
-  abbrev rests : Side → ℕ
-  rests = each _ (fy * fz) (fx * fz) (fx * fy)
-
-  rests-are : (o : Side) → rests o ≡ rest (rayOf s) o
-  rests-are = each _ (times is-y is-z) (times is-x is-z) (times is-x is-y)
-
-  d-is : fx * (fy * fz) ≡ dOf (rayOf s)
-  d-is = times is-x (rests-are X)
-
-  few : (o : Side) → rests o ≤ 2 ^ 40
-  few o = rw (rests-are o) (rest-few able o)
-
-  d-least : fx * (fy * fz) ≤ 2 ^ 60
-  d-least = rw d-is (d-few able)
+  few : (o : Side) → c-of o ≤ 2 ^ 40
+  few o = rw (rests o) (rest-few able o)
 
 factor-requires : tie.Need-factor-requires
 factor-requires c κs = search needs
@@ -75,7 +60,7 @@ mul-cz : tie.Need-mul-cz
 mul-cz c = record { fits = omega (arith, few c Z) }
 
 mul-denominator : tie.Need-mul-denominator
-mul-denominator c = record { fits = omega (arith, d-least c) }
+mul-denominator c = record { fits = omega (arith, d-is c, d-few (able c)) }
 
 reach-requires : tie.Need-reach-requires
 reach-requires c κs = (able c .sized X, few c X)
@@ -111,7 +96,7 @@ returns c =
     let y = z .before in
     let x = y .before in
     let k = x .before in
-    framed (each _ (x .reach .result) (y .reach2 .result) (z .reach3 .result)) (each _ (rests-are k X) (rests-are k Y) (rests-are k Z))
+    framed (each _ (x .reach .result) (y .reach2 .result) (z .reach3 .result)) (each _ (rests k X) (rests k Y) (rests k Z))
     (each _ (x .reach .ensures) (y .reach2 .ensures) (z .reach3 .ensures)) (d-is k)
     (yz .before .most2 .ensures ∙ ap (max (x .reach .result .from)) (yz .before .before .most .ensures))
     (c .before .least3 .ensures ∙ ap (min _) (c .before .before .least2 .ensures ∙ ap (min (x .reach .result .to)) (yz .least .ensures)))

@@ -1,13 +1,12 @@
-use Prim.Native.Nat.{ℕ, _+_, _*_, _^_, _≤_}
+use Prim.Native.Nat.{ℕ, _+_, _*_, _^_, _≤_, _<_}
 use mathlib.Core.Path.{refl}
 use native.Mathlib.Omega.{arith}
-use native.Mathlib.Nat.{mul-le-mul}
 use Rattle.ray.specs.Length.{Side, X, Y, Z}
 use Rattle.line.specs.declared.scene.Scene.{Scene}
-use Rattle.line.specs.Scene.{volumeOf, Able}
+use Rattle.line.specs.Scene.{line, volumeOf, Able}
 use Rattle.line.proofs.Three.{each}
 use Rattle.ray.proofs.Indices.{number}
-use Rattle.walk.proofs.Hops.{number-small}
+use Rattle.walk.proofs.Hops.{row-small, number-small}
 use Rattle.walk.proofs.Plans.{few, at-first}
 use Rattle.walk.proofs.plan.walk_of.Statement.{statement}
 use Rattle.walk.proofs.plan.walk_of.Tie as tie
@@ -23,13 +22,14 @@ module _ (c : tie.After-index3) where
   abbrev at : Side → ℕ
   at = each _ (c .before .before .index .result) (c .before .index2 .result) (c .index3 .result)
 
-  row : at Z * s .y .n + at Y ≤ 2 ^ 19
-  row =
-      let k : at Z ≤ 2 ^ 9 = omega (arith, c .index3 .ensures .inside, able .sized Z .n-size) in
-      omega (arith, mul-le-mul {n₂ = 2 ^ 9} {m₂ = 2 ^ 9} k (able .sized Y .n-size), c .before .index2 .ensures .inside, able .sized Y .n-size)
+  inside : (o : Side) → at o < line s o .n
+  inside = each _ (c .before .before .index .ensures .inside) (c .before .index2 .ensures .inside) (c .index3 .ensures .inside)
 
-  voxel : number (volumeOf s) at ≤ 2 ^ 28
-  voxel = number-small (volumeOf s) (λ o. able .sized o .n-size) at (each _ (c .before .before .index .ensures .inside) (c .before .index2 .ensures .inside) (c .index3 .ensures .inside))
+  row : at Z * s .y .n + at Y ≤ 2 ^ 19
+  row = row-small (volumeOf s) (λ o. able .sized o .n-size) at inside
+
+  voxel : number (volumeOf s) at ≤ 2 ^ 29
+  voxel = number-small (volumeOf s) (λ o. able .sized o .n-size) at inside
 
 index-requires : tie.Need-index-requires
 index-requires c κs = let p = c .before .before .before .pre in at-first (p .0) (p .1) (p .2) X
