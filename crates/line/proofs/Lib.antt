@@ -1,7 +1,7 @@
 -- Laws of lines and scenes.
 pub mod Units
 pub mod Stretch
-pub mod Index
+pub mod Steps
 pub mod Crossing
 pub mod Sizes
 pub mod Three

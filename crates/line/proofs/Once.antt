@@ -8,11 +8,9 @@ use native.Mathlib.Omega.{arith}
 use Rattle.axis.proofs.Once.{once}
 use Rattle.line.specs.declared.line.Line.{Line}
 use Rattle.line.specs.declared.reach.Reach.{Reach}
-use Rattle.line.specs.Scene.{plane, Sized, Within}
+use Rattle.line.specs.Scene.{Sized, Within}
 use Rattle.line.specs.Reach.{Reached}
-use Rattle.ray.proofs.Way.{Way, way as goes}
-use Rattle.line.proofs.Units.{enters-is, leaves-is, held-by}
-use Rattle.line.proofs.Stretch.{plane-mono, HeldAt, enterAt, leaveAt, one-voxel}
+use Rattle.line.proofs.Stretch.{one-voxel}
 
 -- `enter` and `leave`
 pub units-once : (ticks : ℕ → ℕ) (r r′ : ℕ) → ((rest : ℕ) → r * rest ≡ ticks rest) → ((rest : ℕ) → r′ * rest ≡ ticks rest) → r ≡ r′
@@ -31,21 +29,6 @@ jump-once p q unit r r′ x y = elim (decLt p q) [
   | no h ↦ let up = x .1 (omega arith) in let down = y .1 (omega arith) in omega (arith, up, down)
 ]
 
--- a tick lies in one voxel of an axis: what `index` answers
-module _ (a : Line) (c t : ℕ) where
-  abbrev w : Way
-  w = goes (a .p) (a .q) .0
-
-  stretch : (i : ℕ) → Within a c t i → HeldAt w a i × ((enterAt w a c i (i + 1) ≤ t) × (t < leaveAt w a c i (i + 1)))
-  stretch i x =
-      let g = goes (a .p) (a .q) .1 in
-      let up = plane-mono a {i = i} {j = i + 1} (omega arith) in (
-        held-by w (a .p) (a .q) (plane a i) (plane a (i + 1)) g (x .holds),
-        (rw (enters-is w (a .p) (a .q) (plane a i) (plane a (i + 1)) c g up) at (x .since), rw (leaves-is w (a .p) (a .q) (plane a i) (plane a (i + 1)) c g up) at (x .until)),
-      )
-
-  pub index-once : (i j : ℕ) → Sized a → Within a c t i → Within a c t j → i ≡ j
-  index-once i j sized x y =
-      let here = stretch i x in
-      let there = stretch j y in
-      one-voxel w a c (sized .wide) (here .0) (there .0) (here .1 .0) (here .1 .1) (there .1 .0) (there .1 .1)
+-- `index`
+pub index-once : (a : Line) (c t i j : ℕ) → Sized a → Within a c t i → Within a c t j → i ≡ j
+index-once a c t i j sized = one-voxel a sized c t

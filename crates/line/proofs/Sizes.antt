@@ -1,14 +1,13 @@
 -- Every product of a scene's numbers fits 64 bits. Assumes nothing.
 use Prim.Native.Nat.{ℕ, _*_, _^_, _≤_, _<_}
-use mathlib.Core.Path.{_≡_, sym, _∙_}
 use native.Mathlib.Omega.{arith}
-use native.Mathlib.Nat.{mul-le-mul, mul-one}
-use Rattle.axis.specs.Leg.{factor, enters, leaves}
+use native.Mathlib.Nat.{mul-le-mul}
+use Rattle.axis.specs.Leg.{factor}
 use Rattle.line.specs.declared.line.Line.{Line}
-use Rattle.line.specs.Scene.{legN, slabN, plane, Sized}
+use Rattle.line.specs.Scene.{legN, plane, Sized, entersAt, leavesAt}
 use Rattle.ray.proofs.Way.{Way, up, down, still, way as goes, factorBy}
-use Rattle.line.proofs.Units.{enterBy, leaveBy, factor-is, enters-is, leaves-is}
-use Rattle.line.proofs.Stretch.{plane-mono}
+use Rattle.line.proofs.Units.{enterBy, leaveBy, factor-is}
+use Rattle.line.proofs.Stretch.{plane-mono, wayOf, going, enters-by, leaves-by}
 
 pub two-sizes : {f g : ℕ} → f ≤ 2 ^ 20 → g ≤ 2 ^ 20 → f * g ≤ 2 ^ 40
 two-sizes h k = mul-le-mul {n₂ = 2 ^ 20} {m₂ = 2 ^ 20} h k
@@ -40,15 +39,8 @@ module _ (a : Line) (sized : Sized a) where
     leave-by down = omega (arith, sized .p-size)
     leave-by still = omega arith
 
-    -- units that make these ticks at every c are few
-    pub enter-size : (r : ℕ) → ((c : ℕ) → r * c ≡ enters c (legN (a .p) (a .q)) (slabN (plane a i) (plane a j))) → r ≤ 2 ^ 20
-    enter-size r e =
-        let w = goes (a .p) (a .q) in
-        let s : r ≡ enterBy (w .0) (a .p) (plane a i) (plane a j) * 1 = sym (mul-one r) ∙ e 1 ∙ enters-is (w .0) (a .p) (a .q) (plane a i) (plane a j) 1 (w .1) (plane-mono a h) in
-        omega (arith, enter-by (w .0))
+    pub enter-ticks : {c : ℕ} → c ≤ 2 ^ 40 → entersAt a c i j ≤ 2 ^ 60
+    enter-ticks {c} few = rw (enters-by a c (wayOf a) (going a) i j h) (three-sizes (enter-by (wayOf a)) few)
 
-    pub leave-size : (r : ℕ) → ((c : ℕ) → r * c ≡ leaves c (legN (a .p) (a .q)) (slabN (plane a i) (plane a j))) → r ≤ 2 ^ 20
-    leave-size r e =
-        let w = goes (a .p) (a .q) in
-        let s : r ≡ leaveBy (w .0) (a .p) (plane a i) (plane a j) * 1 = sym (mul-one r) ∙ e 1 ∙ leaves-is (w .0) (a .p) (a .q) (plane a i) (plane a j) 1 (w .1) (plane-mono a h) in
-        omega (arith, leave-by (w .0))
+    pub leave-ticks : {c : ℕ} → c ≤ 2 ^ 40 → leavesAt a c i j ≤ 2 ^ 60
+    leave-ticks {c} few = rw (leaves-by a c (wayOf a) (going a) i j h) (three-sizes (leave-by (wayOf a)) few)

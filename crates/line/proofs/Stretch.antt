@@ -1,54 +1,84 @@
 -- One axis in ticks: the stretch of the ray in a voxel, the next voxel, and that a tick lies in one voxel only. Ticks are units
--- times c, the rest of D. Assumes nothing.
-use Prim.Native.Nat.{ℕ, zero, suc, _+_, _-_, _*_, _/_, _≤_, _<_}
-use mathlib.Core.Path.{_≡_, refl, ap, _∙_}
+-- times c, the rest of D. Of where planes lie only their order is asked. Assumes nothing.
+use Prim.Native.Nat.{ℕ, zero, suc, _+_, _-_, _*_, _≤_, _<_}
+use mathlib.Core.Path.{_≡_, refl, sym, ap, _∙_}
+use mathlib.Core.Bool.{true}
 use mathlib.Core.Logic.{⊎-elim}
 use native.Mathlib.Omega.{arith}
 use native.Mathlib.Decide.{decLt}
-use native.Mathlib.Nat.{mul-le-mul-right, lt-of-mul-lt-mul-right, add-mul, suc-mul, zero-mul, div-lt-iff-lt-mul, div-mul-le-self}
+use native.Mathlib.Nat.{le-of-eq, mul-le-mul-right, mul-lt-mul-of-pos-right, lt-of-mul-lt-mul-right, add-mul, one-mul, zero-mul, mul-zero}
 use Rattle.line.specs.declared.line.Line.{Line}
-use Rattle.line.specs.Scene.{plane}
-use Rattle.ray.proofs.Way.{Way, up, down, still}
-use Rattle.line.proofs.Units.{enterBy, leaveBy, HeldBy, enter-within, leave-within, apart}
+use Rattle.line.specs.Scene.{plane, Sized, entersAt, leavesAt, heldAt, Within}
+use Rattle.ray.proofs.Way.{Way, up, down, still, Goes, way as goes}
+use Rattle.line.proofs.Units.{enterBy, leaveBy, HeldBy, enters-is, leaves-is, held-by, by-held, enter-within, leave-within, held-within, held-moving, apart}
 
-pub plane-next : (a : Line) (i : ℕ) → plane a (i + 1) ≡ plane a i + a .d
-plane-next a i = omega (arith, add-mul i 1 (a .d), one-time (a .d))
-  where
-    one-time : (d : ℕ) → 1 * d ≡ d
-    one-time d = omega arith
-
+-- ---- planes rise
 pub plane-mono : (a : Line) {i j : ℕ} → i ≤ j → plane a i ≤ plane a j
 plane-mono a h = omega (arith, mul-le-mul-right (a .d) h)
 
-abbrev pub HeldAt : Way → Line → ℕ → Type 0
-HeldAt w a i = HeldBy w (a .p) (plane a i) (plane a (i + 1))
+pub plane-less : (a : Line) → Sized a → (i : ℕ) → plane a i < plane a (i + 1)
+plane-less a sized i = omega (arith, add-mul i 1 (a .d), one-mul (a .d), sized .wide)
 
-module _ (w : Way) (a : Line) (c : ℕ) where
-  abbrev pub enterAt : ℕ → ℕ → ℕ
-  enterAt i j = enterBy w (a .p) (plane a i) (plane a j) * c
+-- ---- by the way that the ray goes on the axis
+abbrev pub wayOf : Line → Way
+wayOf a = goes (a .p) (a .q) .0
 
-  abbrev pub leaveAt : ℕ → ℕ → ℕ
-  leaveAt i j = leaveBy w (a .p) (plane a i) (plane a j) * c
+pub going : (a : Line) → Goes (wayOf a) (a .p) (a .q)
+going a = goes (a .p) (a .q) .1
 
-  pub enter-whole : (i : ℕ) → i < a .n → enterAt 0 (a .n) ≤ enterAt i (i + 1)
-  enter-whole i h = mul-le-mul-right c (enter-within w (a .p) (plane-mono a (omega arith)) (plane-mono a (omega arith)))
+module _ (a : Line) (c : ℕ) (w : Way) (g : Goes w (a .p) (a .q)) where
+  module _ (i j : ℕ) (h : i ≤ j) where
+    pub enters-by : entersAt a c i j ≡ enterBy w (a .p) (plane a i) (plane a j) * c
+    enters-by = enters-is w (a .p) (a .q) (plane a i) (plane a j) c g (plane-mono a h)
 
-  pub leave-whole : (i : ℕ) → i < a .n → leaveAt i (i + 1) ≤ leaveAt 0 (a .n)
-  leave-whole i h = mul-le-mul-right c (leave-within w (a .p) (plane-mono a (omega arith)) (plane-mono a (omega arith)))
+    pub leaves-by : leavesAt a c i j ≡ leaveBy w (a .p) (plane a i) (plane a j) * c
+    leaves-by = leaves-is w (a .p) (a .q) (plane a i) (plane a j) c g (plane-mono a h)
 
-  module _ (wide : 0 < a .d) where
-    apart-at : {i j t : ℕ} → i < j → HeldAt w a i → HeldAt w a j → enterAt i (i + 1) ≤ t → t < leaveAt i (i + 1) → enterAt j (j + 1) ≤ t → t < leaveAt j (j + 1) → ⊥
-    apart-at {i} {j} {t} h hi hj e l e′ l′ =
-        ⊎-elim (λ k. omega (arith, mul-le-mul-right c k)) (λ k. omega (arith, mul-le-mul-right c k))
-        (apart w (a .p) {lo = plane a i} {hi = plane a (i + 1)} {lo′ = plane a j} {hi′ = plane a (j + 1)}
-        (omega (arith, plane-next a i)) (omega (arith, plane-next a j)) (plane-mono a (omega arith)) hi hj)
+  pub enter-voxel : (i : ℕ) → entersAt a c i (i + 1) ≡ enterBy w (a .p) (plane a i) (plane a (i + 1)) * c
+  enter-voxel i = enters-by i (i + 1) (omega arith)
 
-    -- a tick lies in one voxel of the axis
-    pub one-voxel : {i j t : ℕ} → HeldAt w a i → HeldAt w a j → enterAt i (i + 1) ≤ t → t < leaveAt i (i + 1) → enterAt j (j + 1) ≤ t → t < leaveAt j (j + 1) → i ≡ j
-    one-voxel {i} {j} hi hj e l e′ l′ = elim (decLt i j) [
-      | yes h ↦ absurd (apart-at h hi hj e l e′ l′)
-      | no h ↦ elim (decLt j i) [ yes k ↦ absurd (apart-at k hj hi e′ l′ e l) | no k ↦ omega arith ]
-    ]
+  pub leave-voxel : (i : ℕ) → leavesAt a c i (i + 1) ≡ leaveBy w (a .p) (plane a i) (plane a (i + 1)) * c
+  leave-voxel i = leaves-by i (i + 1) (omega arith)
+
+-- a voxel's stretch lies within the array's
+module _ (a : Line) (c i : ℕ) (h : i < a .n) where
+  abbrev w : Way
+  w = wayOf a
+
+  first : plane a 0 ≤ plane a i
+  first = plane-mono a (omega arith)
+
+  last : plane a (i + 1) ≤ plane a (a .n)
+  last = plane-mono a (omega arith)
+
+  pub enter-whole : entersAt a c 0 (a .n) ≤ entersAt a c i (i + 1)
+  enter-whole = rw (enters-by a c w (going a) 0 (a .n) (omega arith), enter-voxel a c w (going a) i) (mul-le-mul-right c (enter-within w (a .p) first last))
+
+  pub leave-whole : leavesAt a c i (i + 1) ≤ leavesAt a c 0 (a .n)
+  leave-whole = rw (leaves-by a c w (going a) 0 (a .n) (omega arith), leave-voxel a c w (going a) i) (mul-le-mul-right c (leave-within w (a .p) first last))
+
+pub held-whole : (a : Line) (i : ℕ) → i < a .n → heldAt a i (i + 1) ≡ true → heldAt a 0 (a .n) ≡ true
+held-whole a i h k =
+    by-held (wayOf a) (a .p) (a .q) (plane a 0) (plane a (a .n)) (going a)
+    (held-within (wayOf a) (a .p) (first a 0 i h) (last a 0 i h) (held-by (wayOf a) (a .p) (a .q) (plane a i) (plane a (i + 1)) (going a) k))
+
+module _ (a : Line) (sized : Sized a) (c t : ℕ) where
+  held-in : (k : ℕ) → Within a c t k → HeldBy (wayOf a) (a .p) (plane a k) (plane a (k + 1))
+  held-in k v = held-by (wayOf a) (a .p) (a .q) (plane a k) (plane a (k + 1)) (going a) (v .holds)
+
+  apart-at : {i j : ℕ} → i < j → Within a c t i → Within a c t j → ⊥
+  apart-at {i} {j} h x y =
+      let enter = enter-voxel a c (wayOf a) (going a) in
+      let leave = leave-voxel a c (wayOf a) (going a) in
+      ⊎-elim (λ k. omega (arith, mul-le-mul-right c k, leave i, enter j, x .until, y .since)) (λ k. omega (arith, mul-le-mul-right c k, leave j, enter i, y .until, x .since))
+      (apart (wayOf a) (a .p) (plane-less a sized i) (plane-less a sized j) (plane-mono a (omega arith)) (held-in i x) (held-in j y))
+
+  -- a tick lies in one voxel of the axis
+  pub one-voxel : {i j : ℕ} → Within a c t i → Within a c t j → i ≡ j
+  one-voxel {i} {j} x y = elim (decLt i j) [
+    | yes h ↦ absurd (apart-at h x y)
+    | no h ↦ elim (decLt j i) [ yes k ↦ absurd (apart-at k y x) | no k ↦ omega arith ]
+  ]
 
 -- one voxel on, in the way of the ray
 abbrev pub onward : Way → ℕ → ℕ
@@ -56,100 +86,61 @@ onward up i = i + 1
 onward down i = i - 1
 onward still i = i
 
-pub record Next (w : Way) (a : Line) (c i : ℕ) : Type 0 where
-  pub moves : (w ≡ still) → ⊥
-  pub inside : onward w i < a .n
-  pub leaves : leaveAt w a c (onward w i) (onward w i + 1) ≡ leaveAt w a c i (i + 1) + a .d * c
-  pub enters : enterAt w a c (onward w i) (onward w i + 1) ≡ leaveAt w a c i (i + 1)
+-- an axis that the ray moves on, and not at the end of
+pub record Left (w : Way) (i : ℕ) : Type 0 where
+  pub moves : w ≡ still → ⊥
   pub down-some : w ≡ down → 0 < i
 
-mul-pos : (l c : ℕ) → 0 < l * c → 0 < l
-mul-pos zero c h = omega (arith, zero-mul c)
-mul-pos (suc l) c h = omega arith
+-- the next voxel is the one that the tick is in at which this one is left
+pub record Next (w : Way) (a : Line) (c i : ℕ) : Type 0 where
+  pub left : Left w i
+  pub within : Within a c (leavesAt a c i (i + 1)) (onward w i)
+  pub enters : entersAt a c (onward w i) (onward w i + 1) ≡ leavesAt a c i (i + 1)
 
-up-not-down : up ≡ down → ⊥
-up-not-down e = let z : _≡_ {A = ℕ} 0 1 = cc in absurd (omega arith)
+pub both-some : (l c : ℕ) → 0 < l * c → (0 < l) × (0 < c)
+both-some zero c h = absurd (omega (arith, zero-mul c))
+both-some (suc l) zero h = absurd (omega (arith, mul-zero (suc l)))
+both-some (suc l) (suc c) h = (omega arith, omega arith)
 
-up-not-still : up ≡ still → ⊥
-up-not-still e = let z : _≡_ {A = ℕ} 0 1 = cc in absurd (omega arith)
+module _ (a : Line) (sized : Sized a) (i : ℕ) (h : i < a .n) where
+  abbrev here : Way → ℕ
+  here w = leaveBy w (a .p) (plane a i) (plane a (i + 1))
 
-down-not-still : down ≡ still → ⊥
-down-not-still e = let z : _≡_ {A = ℕ} 0 1 = cc in absurd (omega arith)
+  -- the same in units
+  next-unit : (w : Way) → 0 < here w → here w < leaveBy w (a .p) (plane a 0) (plane a (a .n))
+      → Left w i × (onward w i < a .n) × (enterBy w (a .p) (plane a (onward w i)) (plane a (onward w i + 1)) ≡ here w) × (here w < leaveBy w (a .p) (plane a (onward w i)) (plane a (onward w i + 1)))
+  next-unit up s l = (
+    record { moves = λ e. let z : _≡_ {A = ℕ} 0 1 = cc in omega arith; down-some = λ e. let z : _≡_ {A = ℕ} 0 1 = cc in omega arith },
+    elim (decLt (i + 1) (a .n)) [ yes m ↦ m | no m ↦ absurd (omega (arith, plane-mono a {i = a .n} {j = i + 1} (omega arith))) ],
+    refl,
+    omega (arith, plane-less a sized (i + 1)),
+  )
+  next-unit down s l =
+      let some : 0 < i = elim (decLt 0 i) [ yes m ↦ m | no m ↦ let e : i ≡ 0 = omega arith in absurd (omega (arith, ap (plane a) e)) ] in
+      let back : i - 1 + 1 ≡ i = omega arith in (
+        record { moves = λ e. let z : _≡_ {A = ℕ} 0 1 = cc in omega arith; down-some = λ e. some },
+        omega arith,
+        ap (λ (x : ℕ). a .p - plane a x) back,
+        omega (arith, plane-less a sized (i - 1), ap (plane a) back),
+      )
+  next-unit still s l = absurd (omega arith)
 
-module _ (a : Line) (c : ℕ) where
   -- where the axis is left before the array is, there is a next voxel
-  pub next : (w : Way) (i : ℕ) → i < a .n → 0 < leaveAt w a c i (i + 1) → leaveAt w a c i (i + 1) < leaveAt w a c 0 (a .n) → Next w a c i
-  next up i h l k =
-      let some : 0 < plane a (i + 1) - a .p = mul-pos _ c l in
-      let less : plane a (i + 1) - a .p < plane a (a .n) - a .p = lt-of-mul-lt-mul-right c k in
-      let in′ : i + 1 < a .n = elim (decLt (i + 1) (a .n)) [ yes m ↦ m | no m ↦ absurd (omega (arith, plane-mono a {i = a .n} {j = i + 1} (omega arith))) ] in
-      let e : plane a (i + 1 + 1) - a .p ≡ (plane a (i + 1) - a .p) + a .d = omega (arith, plane-next a (i + 1)) in
+  pub next : (c : ℕ) → 0 < leavesAt a c i (i + 1) → leavesAt a c i (i + 1) < leavesAt a c 0 (a .n) → Next (wayOf a) a c i
+  next c s l =
+      let w = wayOf a in
+      let g = going a in
+      let left : leavesAt a c i (i + 1) ≡ here w * c = leave-voxel a c w g i in
+      let some = both-some (here w) c (omega arith) in
+      let u = next-unit w (some .0) (lt-of-mul-lt-mul-right c (omega (arith, leaves-by a c w g 0 (a .n) (omega arith)))) in
+      let enter : entersAt a c (onward w i) (onward w i + 1) ≡ leavesAt a c i (i + 1) = enter-voxel a c w g (onward w i) ∙ ap (λ (x : ℕ). x * c) (u .2) ∙ sym left in
       record {
-        moves = up-not-still;
-        inside = in′;
-        leaves = ap (λ (x : ℕ). x * c) e ∙ add-mul (plane a (i + 1) - a .p) (a .d) c;
-        enters = refl;
-        down-some = λ e. absurd (up-not-down e);
+        left = u .0;
+        within = record {
+          inside = u .1;
+          holds = by-held w (a .p) (a .q) (plane a (onward w i)) (plane a (onward w i + 1)) g (held-moving w _ _ _ (u .0 .moves));
+          since = le-of-eq enter;
+          until = omega (arith, mul-lt-mul-of-pos-right (u .3) (some .1), leave-voxel a c w g (onward w i));
+        };
+        enters = enter;
       }
-  next down zero h l k = absurd (omega arith)
-  next down (suc i) h l k =
-      let some : 0 < a .p - plane a (suc i) = mul-pos _ c l in
-      let back : suc i - 1 ≡ i = omega arith in
-      let one : suc i ≡ i + 1 = omega arith in
-      let e : a .p - plane a i ≡ (a .p - plane a (i + 1)) + a .d = omega (arith, plane-next a i, ap (plane a) one) in
-      record {
-        moves = down-not-still;
-        inside = omega arith;
-        leaves = rw (back, one) (ap (λ (x : ℕ). x * c) e ∙ add-mul (a .p - plane a (i + 1)) (a .d) c);
-        enters = rw (back, one) refl;
-        down-some = λ e. omega arith;
-      }
-  next still i h l k = absurd (omega arith)
-
--- ---- the voxel of the axis that holds a tick, by a division
-pub units-le : (e c t : ℕ) → 0 < c → e * c ≤ t → e ≤ t / c
-units-le e c t k h = elim (decLt (t / c) e) [ yes m ↦ absurd (omega (arith, div-lt-iff-lt-mul k .0 m)) | no m ↦ omega arith ]
-
-pub ticks-le : (e c t : ℕ) → 0 < c → e ≤ t / c → e * c ≤ t
-ticks-le e c t k h = elim (decLt t (e * c)) [ yes m ↦ absurd (omega (arith, div-lt-iff-lt-mul {y = e} k .1 m)) | no m ↦ omega arith ]
-
--- the place behind the first plane that the ray is in at g of its units
-abbrev pub depth : Way → Line → ℕ → ℕ
-depth up a g = a .p + g - a .b
-depth down a g = a .p - g - 1 - a .b
-depth still a g = a .p - a .b
-
--- enter ≤ g < leave and held, with no difference in it
-abbrev pub In : Way → ℕ → ℕ → ℕ → ℕ → Type 0
-In up p lo hi g = (lo ≤ p + g) × (p + g < hi)
-In down p lo hi g = (lo + g < p) × (p ≤ hi + g)
-In still p lo hi g = (lo ≤ p) × (p < hi) × (g ≡ 0)
-
-pub to-in : (w : Way) (p lo hi g : ℕ) → HeldBy w p lo hi → enterBy w p lo hi ≤ g → g < leaveBy w p lo hi → In w p lo hi g
-to-in up p lo hi g h e l = (omega arith, omega arith)
-to-in down p lo hi g h e l = (omega arith, omega arith)
-to-in still p lo hi g h e l = (h .0, h .1, omega arith)
-
-pub from-in : (w : Way) (p lo hi g : ℕ) → In w p lo hi g → HeldBy w p lo hi × (enterBy w p lo hi ≤ g) × (g < leaveBy w p lo hi)
-from-in up p lo hi g s = (tt, omega (arith, s .0), omega (arith, s .1))
-from-in down p lo hi g s = (tt, omega (arith, s .1), omega (arith, s .0))
-from-in still p lo hi g s = ((s .0, s .1), omega arith, omega (arith, s .2))
-
-module _ (a : Line) (g : ℕ) (wide : 0 < a .d) where
-  cell-lo : (x : ℕ) → x / a .d * a .d ≤ x
-  cell-lo x = div-mul-le-self x (a .d)
-
-  cell-hi : (x : ℕ) → x < x / a .d * a .d + a .d
-  cell-hi x =
-      let h : x / a .d < suc (x / a .d) = omega arith in
-      omega (arith, div-lt-iff-lt-mul wide .0 h, suc-mul (x / a .d) (a .d))
-
-  pub narrow : (w : Way) → In w (a .p) (plane a 0) (plane a (a .n)) g → In w (a .p) (plane a (depth w a g / a .d)) (plane a (depth w a g / a .d + 1)) g
-  narrow up s = (omega (arith, zero-mul (a .d), cell-lo (depth up a g), s .0), omega (arith, zero-mul (a .d), cell-hi (depth up a g), plane-next a (depth up a g / a .d), s .0))
-  narrow down s = (omega (arith, zero-mul (a .d), cell-lo (depth down a g), s .0), omega (arith, zero-mul (a .d), cell-hi (depth down a g), plane-next a (depth down a g / a .d), s .0))
-  narrow still s = (omega (arith, zero-mul (a .d), cell-lo (depth still a g), s .0), omega (arith, zero-mul (a .d), cell-hi (depth still a g), plane-next a (depth still a g / a .d), s .0), s .2)
-
-  pub within : (w : Way) → In w (a .p) (plane a 0) (plane a (a .n)) g → depth w a g / a .d < a .n
-  within up s = div-lt-iff-lt-mul wide .1 (omega (arith, zero-mul (a .d), s .0, s .1))
-  within down s = div-lt-iff-lt-mul wide .1 (omega (arith, zero-mul (a .d), s .0, s .1))
-  within still s = div-lt-iff-lt-mul wide .1 (omega (arith, zero-mul (a .d), s .0, s .1))

@@ -1,9 +1,15 @@
--- The greatest and the least of three, one for each side. Assumes nothing.
+-- Three, one for each side: all of them, their greatest and their least. Assumes nothing.
 use Prim.Native.Nat.{ℕ, _≤_, _<_, min, max}
 use mathlib.Core.Path.{_≡_, refl}
 use native.Mathlib.Omega.{arith}
 use native.Mathlib.Decide.{decLe}
 use Rattle.ray.specs.Length.{Side, X, Y, Z}
+
+-- what holds of each holds of all
+abbrev pub each : (A : Side → Type 0) → A X → A Y → A Z → (s : Side) → A s
+each A x y z X = x
+each A x y z Y = y
+each A x y z Z = z
 
 abbrev pub most : (Side → ℕ) → ℕ
 most f = max (f X) (max (f Y) (f Z))

@@ -86,11 +86,6 @@ by-held down p q lo hi g h = rw (le-ltb p q (omega arith), lt-ltb q p g) refl
 by-held still p q lo hi g h = rw (le-ltb p q (omega arith), le-ltb q p (omega arith), le-leb lo p (h .0), lt-ltb p hi (h .1)) refl
 
 -- ---- laws of the ways
-pub factor-some : (w : Way) (p q : ℕ) → Goes w p q → 0 < factorBy w p q
-factor-some up p q g = omega arith
-factor-some down p q g = omega arith
-factor-some still p q g = omega arith
-
 pub enter-within : (w : Way) (p : ℕ) {lo hi lo₀ hi₁ : ℕ} → lo₀ ≤ lo → hi ≤ hi₁ → enterBy w p lo₀ hi₁ ≤ enterBy w p lo hi
 enter-within up p a b = omega arith
 enter-within down p a b = omega arith
@@ -100,6 +95,16 @@ pub leave-within : (w : Way) (p : ℕ) {lo hi lo₀ hi₁ : ℕ} → lo₀ ≤ l
 leave-within up p a b = omega arith
 leave-within down p a b = omega arith
 leave-within still p a b = omega arith
+
+pub held-within : (w : Way) (p : ℕ) {lo hi lo₀ hi₁ : ℕ} → lo₀ ≤ lo → hi ≤ hi₁ → HeldBy w p lo hi → HeldBy w p lo₀ hi₁
+held-within up p a b h = tt
+held-within down p a b h = tt
+held-within still p a b h = (omega (arith, h .0), omega (arith, h .1))
+
+pub held-moving : (w : Way) (p lo hi : ℕ) → (w ≡ still → ⊥) → HeldBy w p lo hi
+held-moving up p lo hi h = tt
+held-moving down p lo hi h = tt
+held-moving still p lo hi h = absurd (h refl)
 
 -- two stretches with no place in common: the ray is out of one before it is in the other
 pub apart : (w : Way) (p : ℕ) {lo hi lo′ hi′ : ℕ} → lo < hi → lo′ < hi′ → hi ≤ lo′ → HeldBy w p lo hi → HeldBy w p lo′ hi′

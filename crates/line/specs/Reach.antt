@@ -4,17 +4,17 @@ use mathlib.Core.Path.{_≡_}
 use mathlib.Core.Bool.{Bool, _&&_, cond}
 use lib.IntN.{pos}
 use lib.Dec.{ltb}
-use Rattle.axis.specs.Leg.{moving, run, enters, leaves, held}
+use Rattle.axis.specs.Leg.{moving, run}
 use Rattle.ray.specs.Length.{total}
 use Rattle.line.specs.declared.line.Line.{Line}
 use Rattle.line.specs.declared.reach.Reach.{Reach}
-use Rattle.line.specs.Scene.{legN, slabN, plane}
+use Rattle.line.specs.Scene.{legN, plane, entersAt, leavesAt, heldAt}
 
 -- one axis against its first and last plane
 pub record Reached (a : Line) (c : ℕ) (r : Reach) : Type 0 where
-  pub from-is : r .from ≡ enters c (legN (a .p) (a .q)) (slabN (plane a 0) (plane a (a .n)))
-  pub to-is : r .to ≡ leaves c (legN (a .p) (a .q)) (slabN (plane a 0) (plane a (a .n)))
-  pub held-is : r .held ≡ held (legN (a .p) (a .q)) (slabN (plane a 0) (plane a (a .n)))
+  pub from-is : r .from ≡ entersAt a c 0 (a .n)
+  pub to-is : r .to ≡ leavesAt a c 0 (a .n)
+  pub held-is : r .held ≡ heldAt a 0 (a .n)
   pub from-size : r .from ≤ 2 ^ 60
   pub to-size : r .to ≤ 2 ^ 60
 

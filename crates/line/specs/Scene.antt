@@ -1,7 +1,7 @@
 -- A scene read as a volume and a ray of crate ray, and what its sizes may be. Definitions only. Assumes nothing.
 use Prim.Native.Nat.{ℕ, _+_, _*_, _^_, _≤_, _<_}
 use mathlib.Core.Path.{_≡_}
-use mathlib.Core.Bool.{true}
+use mathlib.Core.Bool.{Bool, true}
 use lib.IntN.{pos}
 use Rattle.axis.specs.Leg.{Leg, Slab, held, enters, leaves}
 use Rattle.ray.specs.declared.Ray.{Ray}
@@ -45,16 +45,27 @@ pub record Sized (a : Line) : Type 0 where
 pub record Able (s : Scene) : Type 0 where
   pub sized : (side : Side) → Sized (line s side)
 
+-- where the ray comes in between the planes i and j of an axis, in ticks of c to a unit, where it goes out, and whether
+-- they hold a still one
+abbrev pub entersAt : Line → (c i j : ℕ) → ℕ
+entersAt a c i j = enters c (legN (a .p) (a .q)) (slabN (plane a i) (plane a j))
+
+abbrev pub leavesAt : Line → (c i j : ℕ) → ℕ
+leavesAt a c i j = leaves c (legN (a .p) (a .q)) (slabN (plane a i) (plane a j))
+
+abbrev pub heldAt : Line → (i j : ℕ) → Bool
+heldAt a i j = held (legN (a .p) (a .q)) (slabN (plane a i) (plane a j))
+
 -- the tick t is within the array's planes on an axis
 pub record Window (a : Line) (c t : ℕ) : Type 0 where
   pub some : 0 < c
-  pub holds : held (legN (a .p) (a .q)) (slabN (plane a 0) (plane a (a .n))) ≡ true
-  pub since : enters c (legN (a .p) (a .q)) (slabN (plane a 0) (plane a (a .n))) ≤ t
-  pub until : t < leaves c (legN (a .p) (a .q)) (slabN (plane a 0) (plane a (a .n)))
+  pub holds : heldAt a 0 (a .n) ≡ true
+  pub since : entersAt a c 0 (a .n) ≤ t
+  pub until : t < leavesAt a c 0 (a .n)
 
 -- and within the planes of its voxel i
 pub record Within (a : Line) (c t i : ℕ) : Type 0 where
   pub inside : i < a .n
-  pub holds : held (legN (a .p) (a .q)) (slabN (plane a i) (plane a (i + 1))) ≡ true
-  pub since : enters c (legN (a .p) (a .q)) (slabN (plane a i) (plane a (i + 1))) ≤ t
-  pub until : t < leaves c (legN (a .p) (a .q)) (slabN (plane a i) (plane a (i + 1)))
+  pub holds : heldAt a i (i + 1) ≡ true
+  pub since : entersAt a c i (i + 1) ≤ t
+  pub until : t < leavesAt a c i (i + 1)

@@ -14,12 +14,12 @@ use Rattle.ray.proofs.Different.{alphaOf, crossedAt, crosses-means, means-cross
 use Rattle.ray.proofs.After.{after, none-after, one-after}
 use Rattle.line.specs.declared.line.Line.{Line}
 use Rattle.line.specs.declared.scene.Scene.{Scene}
-use Rattle.line.specs.Scene.{legN, plane, line, Able}
+use Rattle.line.specs.Scene.{legN, plane, line, Able, leavesAt, Within}
 use Rattle.line.proofs.Units.{moves, stays, run-up, run-down}
 use Rattle.line.proofs.Three.{least-le, least-one}
-use Rattle.line.proofs.Stretch.{enterAt, leaveAt}
+use Rattle.line.proofs.Stretch.{going, enter-voxel, leave-voxel}
 use Rattle.line.proofs.Crossing.{up-rise, down-fall}
-use Rattle.line.proofs.Scenes.{vol, ray, way, going, leg-is, leave}
+use Rattle.line.proofs.Scenes.{vol, ray, way, leg-is, leave}
 use Rattle.walk.specs.declared.steps.Walk.{Walk}
 use Rattle.walk.specs.declared.steps.Strides.{Strides}
 use Rattle.walk.specs.Model.{leaveOf, soonest, entries, Forward}
@@ -40,31 +40,29 @@ far-inside up i n h = omega arith
 far-inside down i n h = omega arith
 far-inside still i n h = omega arith
 
-moves-by : (a : Line) (w : Way) → Goes w (a .p) (a .q) → (w ≡ still → ⊥) → moving (legN (a .p) (a .q)) ≡ true
-moves-by a up g m = moves (a .p) (a .q) (λ e. omega arith)
-moves-by a down g m = moves (a .p) (a .q) (λ e. omega arith)
-moves-by a still g m = absurd (m refl)
-
 module _ (a : Line) (c : ℕ) where
   abbrev tick : ℕ → ℕ
   tick m = run (legN (a .p) (a .q)) (pos (plane a m)) * c
 
-  left-by : (w : Way) (i : ℕ) → Goes w (a .p) (a .q) → (w ≡ still → ⊥) → tick (far w i) ≡ leaveAt w a c i (i + 1)
-  left-by up i g m = ap (λ (x : ℕ). x * c) (run-up (a .p) (a .q) (plane a (i + 1)) g)
-  left-by down i g m = ap (λ (x : ℕ). x * c) (run-down (a .p) (a .q) (plane a i) g)
+  -- the plane by which a moving axis leaves a voxel is met there
+  left-by : (w : Way) (i : ℕ) → Goes w (a .p) (a .q) → (w ≡ still → ⊥) → (moving (legN (a .p) (a .q)) ≡ true) × (tick (far w i) ≡ leavesAt a c i (i + 1))
+  left-by up i g m = (moves (a .p) (a .q) (λ e. omega arith), ap (λ (x : ℕ). x * c) (run-up (a .p) (a .q) (plane a (i + 1)) g) ∙ sym (leave-voxel a c up g i))
+  left-by down i g m = (moves (a .p) (a .q) (λ e. omega arith), ap (λ (x : ℕ). x * c) (run-down (a .p) (a .q) (plane a i) g) ∙ sym (leave-voxel a c down g i))
   left-by still i g m = absurd (m refl)
 
   -- a plane that is met after the ray came into a voxel is not met before the ray leaves it
-  not-before : (w : Way) (i m t : ℕ) → Goes w (a .p) (a .q) → moving (legN (a .p) (a .q)) ≡ true → enterAt w a c i (i + 1) ≤ t → t < tick m → leaveAt w a c i (i + 1) ≤ tick m
-  not-before up i m t g on e l =
+  not-before : (w : Way) (i m t : ℕ) → Goes w (a .p) (a .q) → moving (legN (a .p) (a .q)) ≡ true → Within a c t i → t < tick m → leavesAt a c i (i + 1) ≤ tick m
+  not-before up i m t g on v l =
       let k : tick m ≡ (plane a m - a .p) * c = ap (λ (x : ℕ). x * c) (run-up (a .p) (a .q) (plane a m) g) in
-      elim (decLe m i) [ yes h ↦ absurd (omega (arith, up-rise a c m i h)) | no h ↦ omega (arith, up-rise a c (i + 1) m (omega arith)) ]
-  not-before down i m t g on e l =
+      let e = enter-voxel a c up g i in
+      elim (decLe m i) [ yes h ↦ absurd (omega (arith, v .since, up-rise a c m i h)) | no h ↦ omega (arith, leave-voxel a c up g i, up-rise a c (i + 1) m (omega arith)) ]
+  not-before down i m t g on v l =
       let k : tick m ≡ (a .p - plane a m) * c = ap (λ (x : ℕ). x * c) (run-down (a .p) (a .q) (plane a m) g) in
-      elim (decLe m i) [ yes h ↦ omega (arith, down-fall a c m i h) | no h ↦ absurd (omega (arith, down-fall a c (i + 1) m (omega arith))) ]
-  not-before still i m t g on e l = off-or-on (moving (legN (a .p) (a .q))) on (stays (a .p) (a .q) g)
+      let e = enter-voxel a c down g i in
+      elim (decLe m i) [ yes h ↦ omega (arith, leave-voxel a c down g i, down-fall a c m i h) | no h ↦ absurd (omega (arith, v .since, down-fall a c (i + 1) m (omega arith))) ]
+  not-before still i m t g on v l = off-or-on (moving (legN (a .p) (a .q))) on (stays (a .p) (a .q) g)
 
-module _ (s : Scene) (able : Able s) where
+module _ {s : Scene} (able : Able s) where
   abbrev to : ℕ
   to = stop (ray s) (array (vol s))
 
@@ -74,12 +72,12 @@ module _ (s : Scene) (able : Able s) where
   alpha-is : (o : Side) (m : ℕ) → alphaOf (vol s) (ray s) o m ≡ tick (line s o) (rest (ray s) o) m
   alpha-is o m = rw (leg-is s o) refl
 
-  module _ (w : Walk) (at : Side → ℕ) (on : Walking s w at) where
+  module _ {w : Walk} {at : Side → ℕ} (on : Walking s w at) where
     -- no α within the turn
     quiet : (x : ℕ) → w .t < x → x < soonest w → crossed x ≡ false
     quiet x a b = crossed-no (vol s) (ray s) x (λ o i h c e.
-        let met : leave s o (at o) (at o + 1) ≤ tick (line s o) (rest (ray s) o) i = not-before (line s o) (rest (ray s) o) (way s o) (at o) i (w .t) (going s o)
-        (rw (leg-is s o) at (crosses-means (vol s) (ray s) o i c .0)) (on .since o) (omega (arith, alpha-is o i)) in
+        let met : leave s o (at o) (at o + 1) ≤ tick (line s o) (rest (ray s) o) i = not-before (line s o) (rest (ray s) o) (way s o) (at o) i (w .t) (going (line s o))
+        (rw (leg-is s o) at (crosses-means (vol s) (ray s) o i c .0)) (on .within o) (omega (arith, alpha-is o i)) in
         omega (arith, alpha-is o i, on .leaves o, least-le (leaveOf w) o))
 
     -- and after the last turn none
@@ -87,25 +85,23 @@ module _ (s : Scene) (able : Able s) where
     last-quiet h x a = elim (decLt x (soonest w)) [ yes b ↦ quiet x a b | no b ↦ crossed-until (vol s) (ray s) x (omega arith) ]
 
     since-start : start (ray s) (array (vol s)) ≤ w .t
-    since-start = omega (arith, start-late s able (number (vol s) at) (here-below s able w at on), here-start s able w at on)
+    since-start = omega (arith, start-late s (number (vol s) at) (here-below able on), here-start able on)
 
-    module _ (t : Strides) (paced : Paced s t) (more : soonest w < to) where
-      end-crossed : crossed (soonest w) ≡ true
-      end-crossed =
-          let o = least-one (leaveOf w) in
-          let n = next-at s able w at on t paced more (o .0) (o .1) in
-          let i : ℕ = far (way s (o .0)) (at (o .0)) in
-          let e : alphaOf (vol s) (ray s) (o .0) i ≡ soonest w =
-          alpha-is (o .0) i ∙ left-by (line s (o .0)) (rest (ray s) (o .0)) (way s (o .0)) (at (o .0)) (going s (o .0)) (n .moves) ∙ sym (on .leaves (o .0)) ∙ o .1 in
-          crossed-yes (vol s) (ray s) (soonest w) (o .0) i (far-inside (way s (o .0)) (at (o .0)) (line s (o .0) .n) (on .inside (o .0)))
-          (means-crosses (vol s) (ray s) (o .0) i (rw (leg-is s (o .0)) (moves-by (line s (o .0)) (way s (o .0)) (going s (o .0)) (n .moves)))
-          (omega (arith, since-start, soon-later s able w at on)) (omega arith)) e
+    end-crossed : {t : Strides} → Paced s t → soonest w < to → crossed (soonest w) ≡ true
+    end-crossed paced more =
+        let o : Side = least-one (leaveOf w) .0 in
+        let u : leaveOf w o ≡ soonest w = least-one (leaveOf w) .1 in
+        let i : ℕ = far (way s o) (at o) in
+        let m = left-by (line s o) (rest (ray s) o) (way s o) (at o) (going (line s o)) (next-at able on paced more o u .left .moves) in
+        let e : alphaOf (vol s) (ray s) o i ≡ soonest w = alpha-is o i ∙ m .1 ∙ sym (on .leaves o) ∙ u in
+        crossed-yes (vol s) (ray s) (soonest w) o i (far-inside (way s o) (at o) (line s o .n) (on .within o .inside))
+        (means-crosses (vol s) (ray s) o i (rw (leg-is s o) (m .0)) (omega (arith, since-start, soon-later able on)) (omega arith)) e
 
-  pub found-alphas : (t : Strides) (paced : Paced s t) (w : Walk) (at : Side → ℕ) → Walking s w at → Forward t to w
+  pub found-alphas : {t : Strides} (paced : Paced s t) {w : Walk} {at : Side → ℕ} → Walking s w at → Forward t to w
       → length (entries t to w) ≡ 1 + after crossed (dOf (ray s)) (w .t)
-  found-alphas t paced =
-      walk-all s able t paced (λ w at es. length es ≡ 1 + after crossed (dOf (ray s)) (w .t))
-      (λ w at on b h. omega (arith, none-after crossed (dOf (ray s)) (w .t) (last-quiet w at on h)))
+  found-alphas {t} paced =
+      walk-all able paced (λ w es. length es ≡ 1 + after crossed (dOf (ray s)) (w .t))
+      (λ w at on b h. omega (arith, none-after crossed (dOf (ray s)) (w .t) (last-quiet on h)))
       (λ w at on h es rest.
-      let e : length es ≡ 1 + after crossed (dOf (ray s)) (soonest w) = rw (step-tick t to w) at rest in
-      omega (arith, one-after crossed (dOf (ray s)) (w .t) (soonest w) (soon-later s able w at on) (omega (arith, to-d s able w at on)) (end-crossed w at on t paced h) (quiet w at on)))
+      let e : length es ≡ 1 + after crossed (dOf (ray s)) (soonest w) = rw (step-tick t w) at rest in
+      omega (arith, one-after crossed (dOf (ray s)) (w .t) (soonest w) (soon-later able on) (omega (arith, to-d able on)) (end-crossed on paced h) (quiet on)))

@@ -45,19 +45,19 @@ module _ (es : List Entry) (n : ℕ) where
     parts-now = rw (lt-leb (length (parts es)) (length ps₀) (omega (arith, parts-number))) refl;
   }
 
-module _ (s : Scene) (able : Able s) (f : Frame) (framed : Framed s f) where
+module _ {s : Scene} (able : Able s) {f : Frame} (framed : Framed s f) where
   abbrev v : Volume
   v = volumeOf s
 
   abbrev r : Ray
   r = rayOf s
 
-  module _ (hit : f .hit ≡ true) (p : Plan) (planned : Planned s (f .to) p) where
+  module _ (hit : f .hit ≡ true) {p : Plan} (planned : Planned s (f .to) p) where
     abbrev es : List Entry
     es = entries (p .strides) (f .to) (p .walk)
 
     pub from-to : f .from ≤ f .to
-    from-to = let k = proper s able f framed hit in omega arith
+    from-to = let k = proper able framed hit in omega arith
 
     span-is : f .to - f .from ≡ spanOf v r
     unfolding spanOf

@@ -19,9 +19,8 @@ use Rattle.line.specs.declared.scene.Scene.{Scene}
 use Rattle.line.specs.Scene.{volumeOf, rayOf, Able}
 use Rattle.walk.specs.Model.{Entry, entries}
 use Rattle.walk.proofs.Found.{found-list, found-parts, found-total}
-use Rattle.walk.proofs.SetOut.{SetOut, set-out}
+use Rattle.walk.proofs.SetOut.{SetOut, set-out, few-planes}
 use Rattle.walk.proofs.Missed.{part-hits}
-use Rattle.walk.proofs.FewPlanes.{few-planes}
 use Rattle.walk.proofs.Alphas.{found-alphas}
 
 either-way : {P : Type 0} (b : Bool) → (b ≡ false → P) → (b ≡ true → P) → P
@@ -41,7 +40,7 @@ module _ (s : Scene) (able : Able s) where
 
   -- RULES 5: the numbers of a miss
   pub missed-list : misses v r ≡ true → listOf v r ≡ []
-  missed-list missed = no-members (listOf v r) (λ m h. let k = list-sound v r m h in off-or-on (misses v r) missed (part-hits s able m (k .0) (k .1)))
+  missed-list missed = no-members (listOf v r) (λ m h. let k = list-sound v r m h in off-or-on (misses v r) missed (part-hits s m (k .0) (k .1)))
 
   pub missed-sum : (densities : List ℕ) → misses v r ≡ true → sumOf v r densities ≡ 0
   unfolding sum
@@ -54,20 +53,20 @@ module _ (s : Scene) (able : Able s) where
     where
       on-hit : misses v r ≡ false → sumList (map (partOf v r) (listOf v r)) ≡ spanOf v r
       on-hit hit =
-          let o : SetOut s = set-out s able hit in
-          ap (λ (vs : List ℕ). sumList (map (partOf v r) vs)) (sym (found-list s able (o .strides) (o .pace) (o .walk) (o .at) (o .on) (o .ahead) (o .tick)))
-          ∙ ap sumList (sym (found-parts s able (o .strides) (o .pace) (o .walk) (o .at) (o .on) (o .ahead)))
-          ∙ found-total s able (o .strides) (o .pace) (o .walk) (o .at) (o .on) (o .ahead)
+          let o : SetOut s = set-out able hit in
+          ap (λ (vs : List ℕ). sumList (map (partOf v r) vs)) (sym (found-list able (o .pace) (o .on) (o .ahead) (o .tick)))
+          ∙ ap sumList (sym (found-parts able (o .pace) (o .on) (o .ahead)))
+          ∙ found-total able (o .pace) (o .on) (o .ahead)
           ∙ rw (o .tick, hit) refl
 
   -- RULES 4: entries by the different α of the planes crossed
   pub entries-alphas : misses v r ≡ false → length (listOf v r) ≡ 1 + differentOf v r
   unfolding differentOf
   entries-alphas hit =
-      let o : SetOut s = set-out s able hit in
-      ap length (sym (found-list s able (o .strides) (o .pace) (o .walk) (o .at) (o .on) (o .ahead) (o .tick)))
+      let o : SetOut s = set-out able hit in
+      ap length (sym (found-list able (o .pace) (o .on) (o .ahead) (o .tick)))
       ∙ length-map (entries (o .strides) (stop r (array v)) (o .walk)) (λ (e : Entry). e .voxel)
-      ∙ found-alphas s able (o .strides) (o .pace) (o .walk) (o .at) (o .on) (o .ahead)
+      ∙ found-alphas able (o .pace) (o .on) (o .ahead)
       ∙ ap (λ (n : ℕ). 1 + n) (all-after (crossedAt v r) (dOf r) (o .walk .t) (λ x h. crossed-since v r x (omega (arith, o .tick))))
 
   -- each of those α is that of a plane crossed, some of several
@@ -78,7 +77,7 @@ module _ (s : Scene) (able : Able s) where
   pub crossed-few : crossedOf v r + 3 ≤ v X .n + v Y .n + v Z .n
   unfolding crossedOf
   crossed-few =
-      either-way (misses v r) (few-planes s able) (λ missed. rw missed (omega (arith, able .sized X .some, able .sized Y .some, able .sized Z .some)))
+      either-way (misses v r) (few-planes able) (λ missed. rw missed (omega (arith, able .sized X .some, able .sized Y .some, able .sized Z .some)))
 
   -- RULES 4: the most entries there are
   pub entries-few : length (listOf v r) + 2 ≤ v X .n + v Y .n + v Z .n

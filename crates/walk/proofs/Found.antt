@@ -17,7 +17,7 @@ use Rattle.walk.specs.declared.steps.Strides.{Strides}
 use Rattle.walk.specs.Model.{soonest, stepped, Entry, entry, voxels, parts, entries, Forward}
 use Rattle.walk.proofs.Turns.{forward-on, step-tick, entries-last, entries-more}
 use Rattle.ray.proofs.Indices.{number}
-use Rattle.walk.proofs.Walking.{Paced, Walking, start-late, stop-soon, here-below, here-start, here-only, soon-later, part-more, part-last, number-kept, onAt, walking-on}
+use Rattle.walk.proofs.Walking.{Paced, Walking, start-late, stop-soon, here-below, here-start, here-only, soon-later, part-more, part-last, number-kept, walking-on}
 
 fewer : (to t u m : ℕ) → to - t ≤ suc m → t < u → to - u ≤ m
 fewer to t u m h k = omega arith
@@ -26,25 +26,25 @@ fewer to t u m h k = omega arith
 adds-up : (to t u v x : ℕ) → t < u → u < to → x ≡ u → v ≡ to - x → (u - t) + v ≡ to - t
 adds-up to t u v x a b c d = omega arith
 
-module _ (s : Scene) (able : Able s) (t : Strides) (paced : Paced s t) where
+module _ {s : Scene} (able : Able s) {t : Strides} (paced : Paced s t) where
   abbrev to : ℕ
   to = stop (ray s) (array (vol s))
 
   -- what holds of a last turn, and of a turn wherever it holds of what comes after, holds of a walk
-  module _ (P : Walk → (Side → ℕ) → List Entry → Type 0)
-      (last : (w : Walk) (at : Side → ℕ) → Walking s w at → w .t < to → to ≤ soonest w → P w at (entry w to ∷ []))
-      (more : (w : Walk) (at : Side → ℕ) (on : Walking s w at) (h : soonest w < to) (es : List Entry) → P (stepped t w) (onAt s able w at on t paced h) es → P w at (entry w (soonest w) ∷ es)) where
-    walk-within : (m : ℕ) (w : Walk) (at : Side → ℕ) → Walking s w at → Forward t to w → to - w .t ≤ m → P w at (entries t to w)
-    walk-within zero w at on f h = absurd (omega (arith, f .before))
-    walk-within (suc m) w at on f h = elim (decLe to (soonest w)) [
-      | yes e ↦ subst (P w at) (sym (entries-last t to w f e)) (last w at on (f .before) e)
+  module _ (P : Walk → List Entry → Type 0)
+      (last : (w : Walk) (at : Side → ℕ) → Walking s w at → w .t < to → to ≤ soonest w → P w (entry w to ∷ []))
+      (more : (w : Walk) (at : Side → ℕ) → Walking s w at → soonest w < to → (es : List Entry) → P (stepped t w) es → P w (entry w (soonest w) ∷ es)) where
+    walk-within : (m : ℕ) {w : Walk} {at : Side → ℕ} → Walking s w at → Forward t to w → to - w .t ≤ m → P w (entries t to w)
+    walk-within zero on f h = absurd (omega (arith, f .before))
+    walk-within (suc m) {w} on f h = elim (decLe to (soonest w)) [
+      | yes e ↦ subst (P w) (sym (entries-last f e)) (last w _ on (f .before) e)
       | no e ↦ let k : soonest w < to = omega arith in
-          subst (P w at) (sym (entries-more t to w f k))
-          (more w at on k _ (walk-within m (stepped t w) (onAt s able w at on t paced k) (walking-on s able w at on t paced k) (forward-on t to w f k) (fewer to (w .t) (stepped t w .t) m h (subst (λ (u : ℕ). w .t < u) (sym (step-tick t to w)) (f .later)))))
+          let less = fewer to (w .t) (stepped t w .t) m h (subst (λ (u : ℕ). w .t < u) (sym (step-tick t w)) (f .later)) in
+          subst (P w) (sym (entries-more f k)) (more w _ on k _ (walk-within m (walking-on able on paced k) (forward-on f k) less))
     ]
 
-    pub walk-all : (w : Walk) (at : Side → ℕ) → Walking s w at → Forward t to w → P w at (entries t to w)
-    walk-all w at on f = walk-within (to - w .t) w at on f (omega arith)
+    pub walk-all : {w : Walk} {at : Side → ℕ} → Walking s w at → Forward t to w → P w (entries t to w)
+    walk-all {w} on f = walk-within (to - w .t) on f (omega arith)
 
   abbrev Ends : List ℕ → Type 0
   Ends vs = Listed (starts (vol s) (ray s)) (partOf (vol s) (ray s)) (count (vol s)) vs
@@ -53,48 +53,40 @@ module _ (s : Scene) (able : Able s) (t : Strides) (paced : Paced s t) where
   Until x vs = SoFar (starts (vol s) (ray s)) (partOf (vol s) (ray s)) (count (vol s)) x vs
 
   starts-before : (m : ℕ) → m < count (vol s) → 0 < partOf (vol s) (ray s) m → starts (vol s) (ray s) m < to
-  starts-before m h p = let a = met s m p .proper in let b = stop-soon s able m h in omega arith
+  starts-before m h p = let a = met s m p .proper in let b = stop-soon s m h in omega arith
 
   -- the list so far and the entries are the list
   module _ (w : Walk) (at : Side → ℕ) (on : Walking s w at) where
-    list-last : w .t < to → to ≤ soonest w → (vs : List ℕ) → Until (w .t) vs → Ends (vs ++ voxels (entry w to ∷ []))
-    list-last b h vs so =
-        let p = part-last s able w at on h in
-        rw (number-kept s able w at on)
-        (all-found starts-before
-        (one-more so (here-below s able w at on) (omega arith)
-        (omega (arith, here-start s able w at on)) (omega (arith, here-start s able w at on))
-        (λ m i q a c. here-only s able w at on m i q a (omega arith))))
+    one-found : (u : ℕ) → w .t < u → u ≤ soonest w → 0 < partOf (vol s) (ray s) (number (vol s) at) → (vs : List ℕ) → Until (w .t) vs → Until u (vs ++ (number (vol s) at ∷ []))
+    one-found u b h p vs so =
+        one-more so (here-below able on) p
+        (omega (arith, here-start able on)) (omega (arith, here-start able on)) (λ m i q a c. here-only able on m i q a (omega arith))
 
-    list-more : (h : soonest w < to) (es : List Entry) → ((vs : List ℕ) → Until (stepped t w .t) vs → Ends (vs ++ voxels es))
+    list-last : w .t < to → to ≤ soonest w → (vs : List ℕ) → Until (w .t) vs → Ends (vs ++ voxels (entry w to ∷ []))
+    list-last b h vs so = rw (number-kept able on) (all-found starts-before (one-found to b h (omega (arith, part-last able on h)) vs so))
+
+    list-more : soonest w < to → (es : List Entry) → ((vs : List ℕ) → Until (stepped t w .t) vs → Ends (vs ++ voxels es))
         → (vs : List ℕ) → Until (w .t) vs → Ends (vs ++ voxels (entry w (soonest w) ∷ es))
     list-more h es rest vs so =
-        let p = part-more s able w at on h in
-        let l = soon-later s able w at on in
-        rw (number-kept s able w at on)
-        (rw append-assoc at (rest (vs ++ (number (vol s) at ∷ []))
-        (rw (step-tick t to w)
-        (one-more so (here-below s able w at on) (omega arith)
-        (omega (arith, here-start s able w at on)) (omega (arith, here-start s able w at on))
-        (λ m i q a c. here-only s able w at on m i q a c)))))
+        let l = soon-later able on in
+        rw (number-kept able on)
+        (rw append-assoc at (rest (vs ++ (number (vol s) at ∷ [])) (rw (step-tick t w) (one-found (soonest w) l (omega arith) (omega (arith, part-more able on h)) vs so))))
 
-  pub found-list : (w : Walk) (at : Side → ℕ) → Walking s w at → Forward t to w → w .t ≡ start (ray s) (array (vol s)) → voxels (entries t to w) ≡ listOf (vol s) (ray s)
-  found-list w at on f e =
-      list-is (vol s) (ray s) (starts-apart (vol s) (scene-rise s) (ray s)) (voxels (entries t to w))
-      (walk-all (λ w at es. (vs : List ℕ) → Until (w .t) vs → Ends (vs ++ voxels es)) (λ w at on b h. list-last w at on b h) (λ w at on h es. list-more w at on h es)
-      w at on f [] (none-yet (λ m i p. omega (arith, start-late s able m i))))
+  module _ {w : Walk} {at : Side → ℕ} (on : Walking s w at) (f : Forward t to w) where
+    pub found-list : w .t ≡ start (ray s) (array (vol s)) → voxels (entries t to w) ≡ listOf (vol s) (ray s)
+    found-list e =
+        list-is (vol s) (ray s) (starts-apart (vol s) (scene-rise s) (ray s)) (voxels (entries t to w))
+        (walk-all (λ w es. (vs : List ℕ) → Until (w .t) vs → Ends (vs ++ voxels es)) list-last list-more on f [] (none-yet (λ m i p. omega (arith, start-late s m i))))
 
-  -- each with its part
-  pub found-parts : (w : Walk) (at : Side → ℕ) → Walking s w at → Forward t to w → parts (entries t to w) ≡ map (partOf (vol s) (ray s)) (voxels (entries t to w))
-  found-parts =
-      walk-all (λ w at es. parts es ≡ map (partOf (vol s) (ray s)) (voxels es))
-      (λ w at on b h. rw (number-kept s able w at on, part-last s able w at on h) refl)
-      (λ w at on h es rest. rw (number-kept s able w at on, part-more s able w at on h, rest) refl)
+    -- each with its part
+    pub found-parts : parts (entries t to w) ≡ map (partOf (vol s) (ray s)) (voxels (entries t to w))
+    found-parts =
+        walk-all (λ w es. parts es ≡ map (partOf (vol s) (ray s)) (voxels es))
+        (λ w at on b h. rw (number-kept able on, part-last able on h) refl) (λ w at on h es rest. rw (number-kept able on, part-more able on h, rest) refl) on f
 
-  -- the parts add up
-  pub found-total : (w : Walk) (at : Side → ℕ) → Walking s w at → Forward t to w → sumList (parts (entries t to w)) ≡ to - w .t
-  unfolding sum
-  found-total =
-      walk-all (λ w at es. sumList (parts es) ≡ to - w .t)
-      (λ w at on b h. omega arith)
-      (λ w at on h es rest. adds-up to (w .t) (soonest w) _ _ (soon-later s able w at on) h (step-tick t to w) rest)
+    -- the parts add up
+    pub found-total : sumList (parts (entries t to w)) ≡ to - w .t
+    unfolding sum
+    found-total =
+        walk-all (λ w es. sumList (parts es) ≡ to - w .t)
+        (λ w at on b h. omega arith) (λ w at on h es rest. adds-up to (w .t) (soonest w) _ _ (soon-later able on) h (step-tick t w) rest) on f

@@ -1,15 +1,16 @@
 -- The frame of a scene from what its axes say. Assumes nothing.
-use Prim.Native.Nat.{ℕ, _*_, min, max}
-use mathlib.Core.Path.{_≡_, refl}
+use Prim.Native.Nat.{min}
+use mathlib.Core.Path.{_≡_, refl, _∙_}
 use mathlib.Core.Bool.{Bool, true, false, _&&_, _||_, not}
 use lib.Dec.{ltb, leb}
-use Rattle.axis.specs.Leg.{factor}
 use Rattle.axis.proofs.Flag.{lt-not-le}
-use Rattle.ray.specs.Length.{Side, X, Y, Z, leg, rest, array, start, stop, holds, misses}
+use Rattle.ray.specs.Length.{Side, X, Y, Z, rest, dOf, array, start, stop, holds, misses}
 use Rattle.line.specs.declared.scene.Scene.{Scene}
 use Rattle.line.specs.declared.reach.Reach.{Reach}
-use Rattle.line.specs.Scene.{volumeOf, rayOf}
+use Rattle.line.specs.Scene.{line, volumeOf, rayOf, entersAt, leavesAt}
 use Rattle.line.specs.Reach.{Reached}
+use Rattle.line.proofs.Three.{most, least, most-same, least-same}
+use Rattle.walk.specs.declared.plan.Frame.{Frame}
 use Rattle.walk.specs.Plan.{restOf, Framed}
 
 -- not missed: the window is not empty, and the array holds the ray
@@ -22,25 +23,22 @@ hit-misses s = both _ (leb (stop (rayOf s) (array (volumeOf s))) (start (rayOf s
     both t false true e = rw e refl
     both t false false e = rw e refl
 
-pub framed : (s : Scene) (fx fy fz : ℕ) (rx ry rz : Reach) (myz m lyz lxyz l : ℕ) (hit : Bool)
-    → fx ≡ factor (leg (rayOf s) X) → fy ≡ factor (leg (rayOf s) Y) → fz ≡ factor (leg (rayOf s) Z)
-    → Reached (s .x) (fy * fz) rx → Reached (s .y) (fx * fz) ry → Reached (s .z) (fx * fy) rz
-    → myz ≡ max (ry .from) (rz .from) → m ≡ max (rx .from) myz
-    → lyz ≡ min (ry .to) (rz .to) → lxyz ≡ min (rx .to) lyz → l ≡ min (fx * (fy * fz)) lxyz
-    → hit ≡ (ltb m l && (rx .held && (ry .held && rz .held)))
-    → Framed s (record { cx = fy * fz; cy = fx * fz; cz = fx * fy; denominator = fx * (fy * fz); from = m; to = l; hit = hit })
-framed s fx fy fz rx ry rz myz m lyz lxyz l hit ex ey ez x y z e₁ e₂ l₁ l₂ l₃ h =
-    let from : m ≡ start (rayOf s) (array (volumeOf s)) = rw (e₂, e₁, x .from-is, y .from-is, z .from-is, ex, ey, ez) refl in
-    let to : l ≡ stop (rayOf s) (array (volumeOf s)) = rw (l₃, l₂, l₁, x .to-is, y .to-is, z .to-is, ex, ey, ez) refl in
-    record {
-      rests = sides;
-      denominator-is = rw (ex, ey, ez) refl;
-      from-is = from;
-      to-is = to;
-      hit-is = rw (h, from, to, x .held-is, y .held-is, z .held-is) (hit-misses s);
-    }
-  where
-    sides : (o : Side) → restOf (record { cx = fy * fz; cy = fx * fz; cz = fx * fy; denominator = fx * (fy * fz); from = m; to = l; hit = hit }) o ≡ rest (rayOf s) o
-    sides X = rw (ey, ez) refl
-    sides Y = rw (ex, ez) refl
-    sides Z = rw (ex, ey) refl
+module _ {s : Scene} {f : Frame} (r : Side → Reach) (rests : (o : Side) → restOf f o ≡ rest (rayOf s) o) (reached : (o : Side) → Reached (line s o) (restOf f o) (r o)) where
+  first : (o : Side) → r o .from ≡ entersAt (line s o) (rest (rayOf s) o) 0 (line s o .n)
+  first o = rw (← rests o) (reached o .from-is)
+
+  last : (o : Side) → r o .to ≡ leavesAt (line s o) (rest (rayOf s) o) 0 (line s o .n)
+  last o = rw (← rests o) (reached o .to-is)
+
+  pub framed : f .denominator ≡ dOf (rayOf s) → f .from ≡ most (λ o. r o .from) → f .to ≡ min (f .denominator) (least (λ o. r o .to))
+      → f .hit ≡ (ltb (f .from) (f .to) && (r X .held && (r Y .held && r Z .held))) → Framed s f
+  framed d m l h =
+      let from : f .from ≡ start (rayOf s) (array (volumeOf s)) = m ∙ most-same (λ o. r o .from) (λ o. entersAt (line s o) (rest (rayOf s) o) 0 (line s o .n)) first in
+      let to : f .to ≡ stop (rayOf s) (array (volumeOf s)) = l ∙ rw (d, least-same (λ o. r o .to) (λ o. leavesAt (line s o) (rest (rayOf s) o) 0 (line s o .n)) last) refl in
+      record {
+        rests = rests;
+        denominator-is = d;
+        from-is = from;
+        to-is = to;
+        hit-is = rw (h, from, to, reached X .held-is, reached Y .held-is, reached Z .held-is) (hit-misses s);
+      }

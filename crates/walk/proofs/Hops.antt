@@ -5,7 +5,8 @@ use mathlib.Core.Bool.{Bool, true, false, cond}
 use native.Mathlib.Omega.{arith}
 use native.Mathlib.Nat.{mod-eq-of-lt, add-mod-right, add-mul, suc-mul, one-mul, mul-le-mul, mul-assoc}
 use Rattle.ray.specs.Length.{Side, X, Y, Z, Volume}
-use Rattle.line.proofs.Stretch.{onward}
+use Rattle.line.proofs.Three.{each}
+use Rattle.line.proofs.Stretch.{onward, Left}
 use Rattle.walk.specs.Plan.{unit}
 use Rattle.ray.proofs.Way.{Way, up, down, still}
 use Rattle.ray.proofs.Indices.{number}
@@ -15,11 +16,6 @@ abbrev pub Jump : Way → ℕ → ℕ → Type 0
 Jump up unit x = x ≡ unit
 Jump down unit x = x + unit ≡ 2 ^ 64
 Jump still unit x = Unit {0}
-
--- where an axis is left there is a next voxel, in the ray's way
-pub record Left (w : Way) (i : ℕ) : Type 0 where
-  pub moves : w ≡ still → ⊥
-  pub down-some : w ≡ down → 0 < i
 
 jump : (w : Way) (unit x base i : ℕ) → Jump w unit x → Left w i → base + i * unit + unit < 2 ^ 64 → (base + i * unit + x) % 2 ^ 64 ≡ base + onward w i * unit
 jump up unit x base i j l h = mod-eq-of-lt (omega arith) ∙ omega (arith, add-mul i 1 unit, one-mul unit)
@@ -36,35 +32,30 @@ hopped : (b : Bool) (w : Way) (unit x base i : ℕ) → Jump w unit x → (b ≡
 hopped true w unit x base i j l h = jump w unit x base i j (l refl) h
 hopped false w unit x base i j l h = refl
 
--- the number, counted by one axis
-module _ (v : Volume) (k j i : ℕ) where
-  by-x : (k * v Y .n + j) * v X .n + i ≡ (k * v Y .n + j) * v X .n + i * 1
-  by-x = omega arith
+-- the number by one axis: what the two others give, and the axis' own part
+abbrev others : Volume → (Side → ℕ) → Side → ℕ
+others v at X = (at Z * v Y .n + at Y) * v X .n
+others v at Y = at Z * (v Y .n * v X .n) + at X
+others v at Z = at Y * v X .n + at X
 
-  by-y : (k * v Y .n + j) * v X .n + i ≡ (k * (v Y .n * v X .n) + i) + j * v X .n
-  by-y = omega (arith, add-mul (k * v Y .n) j (v X .n), mul-assoc k (v Y .n) (v X .n))
+by-side : (v : Volume) (at : Side → ℕ) (o : Side) → number v at ≡ others v at o + at o * unit v o
+by-side v at X = omega arith
+by-side v at Y = omega (arith, add-mul (at Z * v Y .n) (at Y) (v X .n), mul-assoc (at Z) (v Y .n) (v X .n))
+by-side v at Z = omega (arith, add-mul (at Z * v Y .n) (at Y) (v X .n), mul-assoc (at Z) (v Y .n) (v X .n))
 
-  by-z : (k * v Y .n + j) * v X .n + i ≡ (j * v X .n + i) + k * (v Y .n * v X .n)
-  by-z = omega (arith, add-mul (k * v Y .n) j (v X .n), mul-assoc k (v Y .n) (v X .n))
-
+-- numbers lie far below 2^64
 module _ (v : Volume) (few : (o : Side) → v o .n ≤ 2 ^ 9) where
-  -- places up to n and no further make numbers far below 2^64
-  small : (k j i : ℕ) → k ≤ 2 ^ 9 → j ≤ 2 ^ 9 → i ≤ 2 ^ 9 → (k * (v Y .n * v X .n) + j * v X .n + i ≤ 2 ^ 28)
-  small k j i a b c =
-      let yx : v Y .n * v X .n ≤ 2 ^ 18 = mul-le-mul {n₂ = 2 ^ 9} {m₂ = 2 ^ 9} (few Y) (few X) in
-      let kyx : k * (v Y .n * v X .n) ≤ 2 ^ 27 = mul-le-mul {n₂ = 2 ^ 9} {m₂ = 2 ^ 18} a yx in
-      let jx : j * v X .n ≤ 2 ^ 18 = mul-le-mul {n₂ = 2 ^ 9} {m₂ = 2 ^ 9} b (few X) in
-      omega arith
+  pub unit-small : (o : Side) → unit v o ≤ 2 ^ 18
+  unit-small = each _ (omega arith) (omega (arith, few X)) (mul-le-mul {n₂ = 2 ^ 9} {m₂ = 2 ^ 9} (few Y) (few X))
 
-  unit-small : v Y .n * v X .n ≤ 2 ^ 18
-  unit-small = mul-le-mul {n₂ = 2 ^ 9} {m₂ = 2 ^ 9} (few Y) (few X)
+  module _ (at : Side → ℕ) (h : (o : Side) → at o < v o .n) where
+    pub row-small : at Z * v Y .n + at Y ≤ 2 ^ 19
+    row-small =
+        let z : at Z ≤ 2 ^ 9 = omega (arith, h Z, few Z) in
+        omega (arith, mul-le-mul {n₂ = 2 ^ 9} {m₂ = 2 ^ 9} z (few Y), h Y, few Y)
 
-  pub number-small : (at : Side → ℕ) → ((o : Side) → at o < v o .n) → number v at ≤ 2 ^ 28
-  number-small at h = omega (
-    arith,
-    small (at Z) (at Y) (at X) (omega (arith, h Z, few Z)) (omega (arith, h Y, few Y)) (omega (arith, h X, few X)),
-    by-y v (at Z) (at Y) (at X),
-  )
+    pub number-small : number v at ≤ 2 ^ 29
+    number-small = omega (arith, mul-le-mul {n₂ = 2 ^ 19} {m₂ = 2 ^ 9} row-small (few X), h X, few X)
 
   module _ (way : Side → Way) (at : Side → ℕ) (flag : Side → Bool) (x : Side → ℕ) (jumps : (o : Side) → Jump (way o) (unit v o) (x o))
       (left : (o : Side) → flag o ≡ true → Left (way o) (at o)) (inside : (o : Side) → at o < v o .n)
@@ -75,36 +66,17 @@ module _ (v : Volume) (few : (o : Side) → v o .n ≤ 2 ^ 9) where
     abbrev add : Side → ℕ → ℕ
     add o n = cond (flag o) ((n + x o) % 2 ^ 64) n
 
-    x-bound : (at Z * v Y .n + at Y) * v X .n + at X * 1 + 1 < 2 ^ 64
-    x-bound = omega (arith, number-small at inside)
-
-    over-x : add X (number v at) ≡ (at Z * v Y .n + at Y) * v X .n + to X
-    over-x =
-        ap (add X) (by-x v (at Z) (at Y) (at X))
-        ∙ hopped (flag X) (way X) 1 (x X) ((at Z * v Y .n + at Y) * v X .n) (at X) (jumps X) (left X) x-bound
-        ∙ sym (by-x v (at Z) (at Y) (to X))
-
-    over-y : add Y ((at Z * v Y .n + at Y) * v X .n + to X) ≡ (at Z * v Y .n + to Y) * v X .n + to X
-    over-y =
-        ap (add Y) (by-y v (at Z) (at Y) (to X))
-        ∙ hopped (flag Y) (way Y) (v X .n) (x Y) (at Z * (v Y .n * v X .n) + to X) (at Y) (jumps Y) (left Y)
-        (omega (
-          arith,
-          small (at Z) (at Y) (to X) (omega (arith, inside Z, few Z)) (omega (arith, inside Y, few Y)) (omega (arith, inside′ X, few X)),
-          few X,
-        ))
-        ∙ sym (by-y v (at Z) (to Y) (to X))
-
-    over-z : add Z ((at Z * v Y .n + to Y) * v X .n + to X) ≡ (to Z * v Y .n + to Y) * v X .n + to X
-    over-z =
-        ap (add Z) (by-z v (at Z) (to Y) (to X))
-        ∙ hopped (flag Z) (way Z) (v Y .n * v X .n) (x Z) (to Y * v X .n + to X) (at Z) (jumps Z) (left Z)
-        (omega (
-          arith,
-          small (at Z) (to Y) (to X) (omega (arith, inside Z, few Z)) (omega (arith, inside′ Y, few Y)) (omega (arith, inside′ X, few X)),
-          unit-small,
-        ))
-        ∙ sym (by-z v (to Z) (to Y) (to X))
+    -- one axis from a to b, where the others stay
+    over : (o : Side) (a b : Side → ℕ) → ((s : Side) → a s < v s .n) → (flag o ≡ true → Left (way o) (a o)) → others v a o ≡ others v b o
+        → cond (flag o) (onward (way o) (a o)) (a o) ≡ b o → add o (number v a) ≡ number v b
+    over o a b h l same e =
+        ap (add o) (by-side v a o) ∙ hopped (flag o) (way o) (unit v o) (x o) (others v a o) (a o) (jumps o) l (omega (arith, by-side v a o, number-small a h, unit-small o))
+        ∙ rw (same, e) (sym (by-side v b o))
 
     pub all-over : add Z (add Y (add X (number v at))) ≡ number v to
-    all-over = ap (λ (n : ℕ). add Z (add Y n)) over-x ∙ ap (add Z) over-y ∙ over-z
+    all-over =
+        let x : Side → ℕ = each _ (to X) (at Y) (at Z) in
+        let xy : Side → ℕ = each _ (to X) (to Y) (at Z) in
+        ap (λ (n : ℕ). add Z (add Y n)) (over X at x inside (left X) refl refl)
+        ∙ ap (add Z) (over Y x xy (each _ (inside′ X) (inside Y) (inside Z)) (left Y) refl refl)
+        ∙ over Z xy to (each _ (inside′ X) (inside′ Y) (inside Z)) (left Z) refl refl

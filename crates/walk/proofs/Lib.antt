@@ -1,5 +1,4 @@
 -- Laws of the walk.
-pub mod StepIs
 pub mod Turns
 pub mod Hops
 pub mod Walking
@@ -8,7 +7,6 @@ pub mod Frames
 pub mod Plans
 pub mod SetOut
 pub mod Missed
-pub mod FewPlanes
 pub mod Alphas
 pub mod Counts
 pub mod Once

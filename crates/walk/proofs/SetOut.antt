@@ -1,28 +1,28 @@
 -- Every scene that is hit has a walk, which sets out where the ray comes into the array. So what walks are known to give holds of
 -- ray's definitions, with no walk in the statement. Assumes nothing.
-use Prim.Native.Nat.{ℕ, _+_, _-_, _*_, _/_, _^_, _≤_, _<_}
-use mathlib.Core.Path.{_≡_, refl, sym}
+use Prim.Native.Nat.{ℕ, _+_, _-_, _*_, _^_, _≤_, _<_}
+use mathlib.Core.Path.{_≡_, refl}
 use mathlib.Core.Bool.{true, false, not, cond}
 use native.Mathlib.Omega.{arith}
-use native.Mathlib.Nat.{mul-le-mul}
 use lib.Dec.{ltb}
 use borrow.Author.Tests.{lt-ltb, le-ltb}
-use Rattle.axis.specs.Leg.{leaves}
-use Rattle.ray.specs.Length.{Side, X, Y, Z, rest, dOf, array, start, stop, misses}
+use Rattle.ray.specs.Length.{Side, X, Y, Z, rest, dOf, array, start, stop, misses, crossedOf}
 use Rattle.line.specs.declared.scene.Scene.{Scene}
-use Rattle.line.specs.Scene.{legN, slabN, plane, line, volumeOf, rayOf, Able, Within}
-use Rattle.line.proofs.Units.{leaveBy, leaves-is}
-use Rattle.line.proofs.Stretch.{plane-mono, depth}
-use Rattle.line.proofs.Sizes.{three-sizes, leave-size}
-use Rattle.line.proofs.Scenes.{way, going}
-use Rattle.line.proofs.Index.{index-within}
+use Rattle.line.specs.Scene.{line, volumeOf, rayOf, Able, leavesAt, Within}
+use Rattle.line.specs.Reach.{crossedOn}
+use Rattle.line.proofs.Three.{each}
+use Rattle.line.proofs.Stretch.{going}
+use Rattle.line.proofs.Steps.{indexBy, index-within}
+use Rattle.line.proofs.Sizes.{leave-ticks}
+use Rattle.line.proofs.Crossing.{crossed-is}
+use Rattle.line.proofs.Scenes.{way}
 use Rattle.walk.specs.declared.steps.Walk.{Walk}
 use Rattle.walk.specs.declared.steps.Strides.{Strides}
 use Rattle.walk.specs.declared.plan.Frame.{Frame}
 use Rattle.walk.specs.Model.{Forward}
 use Rattle.walk.specs.Plan.{restOf, Framed, unit, Strided, Begun}
 use Rattle.walk.proofs.Walking.{Paced, Walking}
-use Rattle.walk.proofs.Plans.{rest-few, windows, proper, walking, paced, forward, begun, strided}
+use Rattle.walk.proofs.Plans.{unit-few, few, windows, proper, walking, paced, forward, crossed-all}
 
 pub record SetOut (s : Scene) : Type 0 where
   pub walk : Walk
@@ -34,7 +34,7 @@ pub record SetOut (s : Scene) : Type 0 where
   pub tick : walk .t ≡ start (rayOf s) (array (volumeOf s))
 
 -- the definitions themselves make a frame
-abbrev pub frame : Scene → Frame
+abbrev frame : Scene → Frame
 frame s = record {
   cx = rest (rayOf s) X;
   cy = rest (rayOf s) Y;
@@ -45,13 +45,8 @@ frame s = record {
   hit = not (misses (volumeOf s) (rayOf s));
 }
 
-rest-at : (s : Scene) (o : Side) → restOf (frame s) o ≡ rest (rayOf s) o
-rest-at s X = refl
-rest-at s Y = refl
-rest-at s Z = refl
-
-pub framed : (s : Scene) → Framed s (frame s)
-framed s = record { rests = rest-at s; denominator-is = refl; from-is = refl; to-is = refl; hit-is = refl }
+framed : (s : Scene) → Framed s (frame s)
+framed s = record { rests = each _ refl refl refl; denominator-is = refl; from-is = refl; to-is = refl; hit-is = refl }
 
 -- one voxel on, and one back
 abbrev jump : (p q u : ℕ) → ℕ
@@ -60,12 +55,7 @@ jump p q u = cond (ltb p q) u (2 ^ 64 - u)
 jumps : (p q u : ℕ) → u ≤ 2 ^ 64 → (p < q → jump p q u ≡ u) × (q ≤ p → jump p q u + u ≡ 2 ^ 64)
 jumps p q u h = ((λ k. rw (lt-ltb p q k) refl), (λ k. rw (le-ltb p q k) (omega arith)))
 
-module _ (s : Scene) (able : Able s) where
-  unit-few : (o : Side) → unit (volumeOf s) o ≤ 2 ^ 64
-  unit-few X = omega arith
-  unit-few Y = omega (arith, able .sized X .n-size)
-  unit-few Z = mul-le-mul {n₂ = 2 ^ 32} {m₂ = 2 ^ 32} (omega (arith, able .sized Y .n-size)) (omega (arith, able .sized X .n-size))
-
+module _ {s : Scene} (able : Able s) where
   abbrev strides : Strides
   strides = record {
     dx = s .x .d * frame s .cx;
@@ -76,34 +66,30 @@ module _ (s : Scene) (able : Able s) where
     vz = jump (s .z .p) (s .z .q) (unit (volumeOf s) Z);
   }
 
+  jumps-at : (o : Side) → (line s o .p < line s o .q → jump (line s o .p) (line s o .q) (unit (volumeOf s) o) ≡ unit (volumeOf s) o)
+      × (line s o .q ≤ line s o .p → jump (line s o .p) (line s o .q) (unit (volumeOf s) o) + unit (volumeOf s) o ≡ 2 ^ 64)
+  jumps-at o = jumps (line s o .p) (line s o .q) (unit (volumeOf s) o) (omega (arith, unit-few able o))
+
   pacing : Strided s (frame s) strides
-  pacing = strided s (frame s) _ _ _ (jumps (s .x .p) (s .x .q) _ (unit-few X)) (jumps (s .y .p) (s .y .q) _ (unit-few Y)) (jumps (s .z .p) (s .z .q) _ (unit-few Z))
-
-  abbrev leaveFrom : Side → ℕ → ℕ
-  leaveFrom o i = leaves (restOf (frame s) o) (legN (line s o .p) (line s o .q)) (slabN (plane (line s o) i) (plane (line s o) (i + 1)))
-
-  leave-few : (o : Side) (i : ℕ) → i < line s o .n → leaveFrom o i ≤ 2 ^ 60
-  leave-few o i h =
-      let is : (c : ℕ) → leaves c (legN (line s o .p) (line s o .q)) (slabN (plane (line s o) i) (plane (line s o) (i + 1)))
-      ≡ leaveBy (way s o) (line s o .p) (plane (line s o) i) (plane (line s o) (i + 1)) * c = λ c.
-      leaves-is (way s o) (line s o .p) (line s o .q) (plane (line s o) i) (plane (line s o) (i + 1)) c (going s o) (plane-mono (line s o) (omega arith)) in
-      rw (is (restOf (frame s) o), rest-at s o)
-      (three-sizes (leave-size (line s o) (able .sized o) {i = i} {j = i + 1} (omega arith) (omega arith) _ (λ c. sym (is c))) (rest-few s able o))
+  pacing = record {
+    ticks = each _ refl refl refl;
+    upward = each _ (jumps-at X .0) (jumps-at Y .0) (jumps-at Z .0);
+    downward = each _ (jumps-at X .1) (jumps-at Y .1) (jumps-at Z .1);
+  }
 
   module _ (hit : misses (volumeOf s) (rayOf s) ≡ false) where
-    pub hits : frame s .hit ≡ true
+    hits : frame s .hit ≡ true
     hits = rw hit refl
 
-    pub from-to : frame s .from < frame s .to
-    from-to = proper s able (frame s) (framed s) hits
+    from-to : frame s .from < frame s .to
+    from-to = proper able (framed s) hits
 
     -- on each axis the voxel of a tick at which the ray is in the array
-    abbrev pub index : ℕ → Side → ℕ
-    index t o = depth (way s o) (line s o) (t / restOf (frame s) o) / line s o .d
+    abbrev index : ℕ → Side → ℕ
+    index t o = indexBy (way s o) (line s o) (restOf (frame s) o) t
 
-    pub within : (t : ℕ) → frame s .from ≤ t → t < frame s .to → (o : Side) → Within (line s o) (restOf (frame s) o) t (index t o)
-    within t a b o =
-        index-within (line s o) (restOf (frame s) o) t (way s o) (going s o) (windows s able (frame s) (framed s) hits o t a b) (able .sized o .wide)
+    within : (t : ℕ) → frame s .from ≤ t → t < frame s .to → (o : Side) → Within (line s o) (restOf (frame s) o) t (index t o)
+    within t a b o = index-within (line s o) (restOf (frame s) o) t (way s o) (going (line s o)) (windows able (framed s) hits o t a b) (able .sized o)
 
     abbrev at : Side → ℕ
     at = index (frame s .from)
@@ -112,20 +98,45 @@ module _ (s : Scene) (able : Able s) where
     first-within = within (frame s .from) (omega arith) from-to
 
     abbrev leave : Side → ℕ
-    leave o = leaveFrom o (at o)
+    leave o = leavesAt (line s o) (restOf (frame s) o) (at o) (at o + 1)
+
+    leave-few : (o : Side) → leave o ≤ 2 ^ 60
+    leave-few o = leave-ticks (line s o) (able .sized o) (omega arith) (omega (arith, first-within o .inside)) (few able (framed s) o)
 
     first : Begun s (frame s) (record { x = leave X; y = leave Y; z = leave Z; v = (at Z * s .y .n + at Y) * s .x .n + at X; t = frame s .from })
-    first =
-        begun s (frame s) (at X) (at Y) (at Z) (leave X) (leave Y) (leave Z) (first-within X) (first-within Y) (first-within Z) refl refl refl
-        (leave-few X (at X) (first-within X .inside)) (leave-few Y (at Y) (first-within Y .inside)) (leave-few Z (at Z) (first-within Z .inside))
+    first = record {
+      at = at;
+      within = first-within;
+      leaves-at = each _ refl refl refl;
+      leaves-size = each _ (leave-few X) (leave-few Y) (leave-few Z);
+      number = refl;
+      tick = refl;
+    }
 
     pub set-out : SetOut s
     set-out = record {
       walk = _;
       at = first .at;
       strides = strides;
-      on = walking s able (frame s) (framed s) hits _ first;
-      pace = paced s able (frame s) (framed s) hits _ first strides pacing;
-      ahead = forward s able (frame s) (framed s) hits _ first strides pacing;
+      on = walking able (framed s) hits first;
+      pace = paced able (framed s) hits first pacing;
+      ahead = forward able (framed s) hits first pacing;
       tick = refl;
     }
+
+    -- ---- between the voxel that the ray comes in by and the one it goes out by, an axis has fewer planes than voxels
+    abbrev on : Side → ℕ
+    on o = crossedOn (line s o) (restOf (frame s) o) (frame s .from) (frame s .to)
+
+    apart : (i j k n : ℕ) → i < n → j < n → (i - j) + (j - i) ≡ k → k + 1 ≤ n
+    apart i j k n a b e = omega arith
+
+    on-few : (o : Side) → on o + 1 ≤ line s o .n
+    on-few o =
+        let some = from-to in
+        let last = within (frame s .to - 1) (omega arith) (omega arith) o in
+        apart _ _ (on o) (line s o .n) (first-within o .inside) (last .inside)
+        (crossed-is (line s o) (restOf (frame s) o) (able .sized o) (frame s .from) (frame s .to) _ _ (first-within o) last some)
+
+    pub few-planes : crossedOf (volumeOf s) (rayOf s) + 3 ≤ s .x .n + s .y .n + s .z .n
+    few-planes = omega (arith, on-few X, on-few Y, on-few Z, crossed-all (on X) (on Y) (on Z) (framed s) hits refl refl refl)

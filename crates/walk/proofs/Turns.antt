@@ -1,57 +1,84 @@
 -- The model's entries, turn by turn, and what a loop that makes them keeps. Assumes nothing.
-use Prim.Native.Nat.{ℕ, zero, suc, _+_, _-_, _^_, _%_, _≤_, _<_, min}
+use Prim.Native.Nat.{ℕ, zero, suc, _+_, _-_, _^_, _%_, _≤_, _<_}
 use mathlib.Core.Path.{_≡_, refl, sym, ap, _∙_}
+use mathlib.Core.Bool.{Bool, true, false, cond}
 use mathlib.Core.List.{List, [], _∷_, _++_, append-assoc, append-nil}
 use native.Mathlib.Omega.{arith}
 use native.Mathlib.Decide.{decLe, ℕ-discrete}
 use native.Mathlib.Numerals.{add-one}
-use lib.ListN.{length, take, drop, set, length-set}
+use lib.Dec.{eqb}
+use lib.ListN.{length, take, drop, set, length-set, length-map}
 use lib.Seq.{take-suc-set, drop-set-lt, drop-drop}
 use borrow.Author.Tests.{le-leb, lt-leb, eq-eqb, ne-eqb}
+use Rattle.ray.specs.Length.{Side, X, Y, Z}
+use Rattle.line.proofs.Three.{each, least-le, lt-least}
 use Rattle.walk.specs.declared.steps.Walk.{Walk}
 use Rattle.walk.specs.declared.steps.Strides.{Strides}
-use Rattle.walk.specs.Model.{soonest, further, stepped, Entry, entry, voxels, parts, go, entries, Forward, Filled}
+use Rattle.walk.specs.Model.{leaveOf, soonest, next, further, stepped, Entry, entry, voxels, parts, go, entries, Forward, Filled}
 
-further-later : (leave step u : ℕ) → 0 < step → u ≤ leave → u < further leave step u
-further-later leave step u h k = elim (ℕ-discrete leave u) [ yes e ↦ rw (eq-eqb leave u e) (omega arith) | no e ↦ rw (ne-eqb leave u e) (omega arith) ]
+-- whether an axis is left at u, or later
+abbrev At : Bool → ℕ → ℕ → Type 0
+At true leave u = leave ≡ u
+At false leave u = u < leave
 
-further-size : (leave step u to : ℕ) → u < to → to ≤ 2 ^ 60 → step ≤ 2 ^ 60 → leave ≤ 2 ^ 61 → further leave step u ≤ 2 ^ 61
-further-size leave step u to a b c d = elim (ℕ-discrete leave u) [ yes e ↦ rw (eq-eqb leave u e) (omega arith) | no e ↦ rw (ne-eqb leave u e) d ]
+at-is : (b : Bool) (leave u : ℕ) → At b leave u → eqb leave u ≡ b
+at-is true leave u h = eq-eqb leave u h
+at-is false leave u h = ne-eqb leave u (omega arith)
 
-least-of : (u a b c : ℕ) → u < a → u < b → u < c → u < min a (min b c)
-least-of u a b c h k l = omega arith
+-- the turn, once it is known which axes are left at u
+pub step-is : (s : Strides) (w : Walk) (u : ℕ) (bx by bz : Bool) → soonest w ≡ u → At bx (w .x) u → At by (w .y) u → At bz (w .z) u
+    → _≡_ {A = Walk} (record {
+      x = cond bx (next s w X) (w .x);
+      y = cond by (next s w Y) (w .y);
+      z = cond bz (next s w Z) (w .z);
+      v = let vx : ℕ = cond bx ((w .v + s .vx) % 2 ^ 64) (w .v) in let vy : ℕ = cond by ((vx + s .vy) % 2 ^ 64) vx in cond bz ((vy + s .vz) % 2 ^ 64) vy;
+      t = u;
+    }) (stepped s w)
+unfolding stepped
+step-is s w u bx by bz e ex ey ez = rw (e, at-is bx (w .x) u ex, at-is by (w .y) u ey, at-is bz (w .z) u ez) refl
+
+pub step-tick : (s : Strides) (w : Walk) → stepped s w .t ≡ soonest w
+unfolding stepped
+step-tick s w = refl
+
+pub step-leave : (s : Strides) (w : Walk) (o : Side) → leaveOf (stepped s w) o ≡ further s w (soonest w) o
+unfolding stepped
+step-leave s w = each _ refl refl refl
+
+module _ {s : Strides} {to : ℕ} {w : Walk} (f : Forward s to w) where
+  further-later : (o : Side) → soonest w < further s w (soonest w) o
+  further-later o =
+      let k = least-le (leaveOf w) o in
+      let some = f .steps-some o in
+      elim (ℕ-discrete (leaveOf w o) (soonest w)) [ yes e ↦ rw (eq-eqb (leaveOf w o) (soonest w) e) (omega arith) | no e ↦ rw (ne-eqb (leaveOf w o) (soonest w) e) (omega arith) ]
+
+  further-size : soonest w < to → (o : Side) → further s w (soonest w) o ≤ 2 ^ 61
+  further-size h o = elim (ℕ-discrete (leaveOf w o) (soonest w)) [
+    | yes e ↦ rw (eq-eqb (leaveOf w o) (soonest w) e) (omega (arith, f .steps-size o, f .to-size))
+    | no e ↦ rw (ne-eqb (leaveOf w o) (soonest w) e) (f .leaves-size o)
+  ]
+
+  pub next-tick : {next : Walk} → next ≡ stepped s w → next .t ≡ soonest w
+  next-tick e = ap (λ (x : Walk). x .t) e ∙ step-tick s w
+
+  -- the turn's tick lies ahead, and so does every tick after it
+  pub forward-on : soonest w < to → Forward s to (stepped s w)
+  forward-on h = record {
+    steps-some = f .steps-some;
+    steps-size = f .steps-size;
+    leaves-size = λ o. rw (step-leave s w o) (further-size h o);
+    to-size = f .to-size;
+    later = rw (step-tick s w) (lt-least (leaveOf (stepped s w)) (soonest w) (λ o. rw (step-leave s w o) (further-later o)));
+    before = rw (step-tick s w) h;
+  }
+
+  fits : (o : Side) → next s w o < 2 ^ 64
+  fits o = omega (arith, f .leaves-size o, f .steps-size o)
+
+  pub step-fits : (w .x + s .dx < 2 ^ 64) × (w .y + s .dy < 2 ^ 64) × (w .z + s .dz < 2 ^ 64)
+  step-fits = (fits X, fits Y, fits Z)
 
 module _ (s : Strides) (to : ℕ) where
-  module _ (w : Walk) (f : Forward s to w) where
-    -- the turn's tick lies ahead, and so does every tick after it
-    pub forward-on : soonest w < to → Forward s to (stepped s w)
-    unfolding stepped
-    forward-on h = record {
-      dx-some = f .dx-some;
-      dy-some = f .dy-some;
-      dz-some = f .dz-some;
-      dx-size = f .dx-size;
-      dy-size = f .dy-size;
-      dz-size = f .dz-size;
-      to-size = f .to-size;
-      x-size = further-size (w .x) (s .dx) (soonest w) to h (f .to-size) (f .dx-size) (f .x-size);
-      y-size = further-size (w .y) (s .dy) (soonest w) to h (f .to-size) (f .dy-size) (f .y-size);
-      z-size = further-size (w .z) (s .dz) (soonest w) to h (f .to-size) (f .dz-size) (f .z-size);
-      later = least-of (soonest w) _ _ _ (further-later (w .x) (s .dx) (soonest w) (f .dx-some) (omega arith))
-          (further-later (w .y) (s .dy) (soonest w) (f .dy-some) (omega arith)) (further-later (w .z) (s .dz) (soonest w) (f .dz-some) (omega arith));
-      before = h;
-    }
-
-    pub step-fits : (w .x + s .dx < 2 ^ 64) × (w .y + s .dy < 2 ^ 64) × (w .z + s .dz < 2 ^ 64)
-    step-fits = (omega (arith, f .x-size, f .dx-size), omega (arith, f .y-size, f .dy-size), omega (arith, f .z-size, f .dz-size))
-
-  pub step-tick : (w : Walk) → stepped s w .t ≡ soonest w
-  unfolding stepped
-  step-tick w = refl
-
-  pub next-tick : (w : Walk) {next : Walk} → next ≡ stepped s w → next .t ≡ soonest w
-  next-tick w e = ap (λ (x : Walk). x .t) e ∙ step-tick w
-
   -- more turns than ticks make no difference
   go-enough : (m n : ℕ) (w : Walk) → Forward s to w → to - w .t ≤ m → to - w .t ≤ n → go m s to w ≡ go n s to w
   unfolding go
@@ -60,7 +87,7 @@ module _ (s : Strides) (to : ℕ) where
   go-enough (suc m) (suc n) w f h k = elim (decLe to (soonest w)) [
     | yes e ↦ rw (le-leb to (soonest w) e) refl
     | no e ↦ rw (lt-leb to (soonest w) (omega arith)) (ap (λ (es : List Entry). entry w (soonest w) ∷ es)
-        (go-enough m n (stepped s w) (forward-on w f (omega arith)) (omega (arith, step-tick w, f .later)) (omega (arith, step-tick w, f .later))))
+        (go-enough m n (stepped s w) (forward-on f (omega arith)) (omega (arith, step-tick s w, f .later)) (omega (arith, step-tick s w, f .later))))
   ]
 
   go-length : (m : ℕ) (w : Walk) → length (go m s to w) ≤ m
@@ -71,9 +98,6 @@ module _ (s : Strides) (to : ℕ) where
     | no e ↦ rw (lt-leb to (soonest w) (omega arith)) (omega (arith, go-length m (stepped s w)))
   ]
 
-  one-less : (n : ℕ) → 0 < n → n ≡ suc (n - 1)
-  one-less n h = omega arith
-
   go-last : (m : ℕ) (w : Walk) → to ≤ soonest w → go (suc m) s to w ≡ entry w to ∷ []
   unfolding go
   go-last m w h = rw (le-leb to (soonest w) h) refl
@@ -82,21 +106,24 @@ module _ (s : Strides) (to : ℕ) where
   unfolding go
   go-more m w h = rw (lt-leb to (soonest w) h) refl
 
-  module _ (w : Walk) (f : Forward s to w) where
-    some-turns : to - w .t ≡ suc (to - w .t - 1)
-    some-turns = one-less (to - w .t) (omega (arith, f .before))
+module _ {s : Strides} {to : ℕ} {w : Walk} (f : Forward s to w) where
+  some-turns : to - w .t ≡ suc (to - w .t - 1)
+  some-turns = one-less (to - w .t) (omega (arith, f .before))
+    where
+      one-less : (n : ℕ) → 0 < n → n ≡ suc (n - 1)
+      one-less n h = omega arith
 
-    pub entries-last : to ≤ soonest w → entries s to w ≡ entry w to ∷ []
-    entries-last h = ap (λ (n : ℕ). go n s to w) some-turns ∙ go-last (to - w .t - 1) w h
+  pub entries-last : to ≤ soonest w → entries s to w ≡ entry w to ∷ []
+  entries-last h = ap (λ (n : ℕ). go n s to w) some-turns ∙ go-last s to (to - w .t - 1) w h
 
-    pub entries-more : soonest w < to → entries s to w ≡ entry w (soonest w) ∷ entries s to (stepped s w)
-    entries-more h =
-        ap (λ (n : ℕ). go n s to w) some-turns ∙ go-more (to - w .t - 1) w h
-        ∙ ap (λ (es : List Entry). entry w (soonest w) ∷ es)
-        (go-enough (to - w .t - 1) (to - stepped s w .t) (stepped s w) (forward-on w f h) (omega (arith, step-tick w, f .later)) (omega arith))
+  pub entries-more : soonest w < to → entries s to w ≡ entry w (soonest w) ∷ entries s to (stepped s w)
+  entries-more h =
+      ap (λ (n : ℕ). go n s to w) some-turns ∙ go-more s to (to - w .t - 1) w h
+      ∙ ap (λ (es : List Entry). entry w (soonest w) ∷ es)
+      (go-enough s to (to - w .t - 1) (to - stepped s w .t) (stepped s w) (forward-on f h) (omega (arith, step-tick s w, f .later)) (omega arith))
 
-    pub few-entries : length (entries s to w) ≤ 2 ^ 60
-    few-entries = omega (arith, go-length (to - w .t) w, f .to-size)
+  pub few-entries : length (entries s to w) ≤ 2 ^ 60
+  few-entries = omega (arith, go-length s to (to - w .t) w, f .to-size)
 
 -- ---- a loop that counts the entries es: r of them so far, and the walk's own still to come
 pub record Counting (s : Strides) (to : ℕ) (es : List Entry) (w : Walk) (r : ℕ) : Type 0 where
@@ -104,17 +131,17 @@ pub record Counting (s : Strides) (to : ℕ) (es : List Entry) (w : Walk) (r : �
   pub number : length es ≡ r + length (entries s to w)
   pub few : length es ≤ 2 ^ 60
 
-pub none-counted : (s : Strides) (to : ℕ) (w : Walk) → Forward s to w → Counting s to (entries s to w) w 0
-none-counted s to w f = record { forward = f; number = omega arith; few = few-entries s to w f }
+pub none-counted : {s : Strides} {to : ℕ} {w : Walk} → Forward s to w → Counting s to (entries s to w) w 0
+none-counted f = record { forward = f; number = omega arith; few = few-entries f }
 
-module _ (s : Strides) (to : ℕ) (es : List Entry) (w : Walk) (r : ℕ) (c : Counting s to es w r) where
+module _ {s : Strides} {to : ℕ} {es : List Entry} {w : Walk} {r : ℕ} (c : Counting s to es w r) where
   pub last-counted : to ≤ soonest w → r + 1 ≡ length es
-  last-counted h = omega (arith, c .number, ap length (entries-last s to w (c .forward) h))
+  last-counted h = omega (arith, c .number, ap length (entries-last (c .forward) h))
 
   pub one-counted : soonest w < to → Counting s to es (stepped s w) (r + 1)
   one-counted h = record {
-    forward = forward-on s to w (c .forward) h;
-    number = omega (arith, c .number, ap length (entries-more s to w (c .forward) h));
+    forward = forward-on (c .forward) h;
+    number = omega (arith, c .number, ap length (entries-more (c .forward) h));
     few = c .few;
   }
 
@@ -124,73 +151,72 @@ module _ (s : Strides) (to : ℕ) (es : List Entry) (w : Walk) (r : ℕ) (c : Co
     | no h ↦ let k = one-counted (omega arith) in omega (arith, k .number)
   ]
 
+  pub counted-few : r < 2 ^ 60
+  counted-few = omega (arith, counted-below, c .few)
+
 -- ---- one list of a loop that writes the entries' values xs: the first r of them, and the rest ys still to come
 pub record Writing (xs ys : List ℕ) (r : ℕ) (l l₀ : List ℕ) : Type 0 where
   pub front : xs ≡ take r l ++ ys
   pub back : drop r l ≡ drop r l₀
   pub size : length l ≡ length l₀
+  pub room : length xs ≤ length l₀
 
-pub none-written : (xs l : List ℕ) → Writing xs xs 0 l l
-none-written xs l = record { front = refl; back = refl; size = refl }
+none-written : {xs l : List ℕ} → length xs ≤ length l → Writing xs xs 0 l l
+none-written h = record { front = refl; back = refl; size = refl; room = h }
 
 take-set : (l : List ℕ) (r x : ℕ) → r < length l → take (r + 1) (set l r x) ≡ take r l ++ (x ∷ [])
 take-set l r x h = rw add-one (take-suc-set l r x h)
 
-pub one-written : (xs ys : List ℕ) (x r : ℕ) (l l₀ : List ℕ) → Writing xs (x ∷ ys) r l l₀ → r < length l → Writing xs ys (r + 1) (set l r x) l₀
-one-written xs ys x r l l₀ w h = record {
+one-written : {xs ys : List ℕ} {x r : ℕ} {l l₀ : List ℕ} → Writing xs (x ∷ ys) r l l₀ → r < length l → Writing xs ys (r + 1) (set l r x) l₀
+one-written {ys = ys} {x = x} {r = r} {l = l} {l₀ = l₀} w h = record {
   front = w .front ∙ sym (append-assoc (take r l) (x ∷ []) ys) ∙ ap (λ (z : List ℕ). z ++ ys) (sym (take-set l r x h));
   back = drop-set-lt (r + 1) l r x (omega arith) ∙ sym (drop-drop 1 r l) ∙ ap (drop 1) (w .back) ∙ drop-drop 1 r l₀;
   size = length-set l r x ∙ w .size;
+  room = w .room;
 }
 
-pub all-written : (xs : List ℕ) (r : ℕ) (l l₀ : List ℕ) → Writing xs [] r l l₀ → take r l ≡ xs
-all-written xs r l l₀ w = sym (w .front ∙ append-nil (take r l))
+all-written : {xs : List ℕ} {r : ℕ} {l l₀ : List ℕ} → Writing xs [] r l l₀ → take r l ≡ xs
+all-written {r = r} {l = l} w = sym (w .front ∙ append-nil (take r l))
 
 -- ---- both lists
 pub record Filling (s : Strides) (to : ℕ) (es : List Entry) (w : Walk) (r : ℕ) (vs ps vs₀ ps₀ : List ℕ) : Type 0 where
   pub counting : Counting s to es w r
   pub voxels-so : Writing (voxels es) (voxels (entries s to w)) r vs vs₀
   pub parts-so : Writing (parts es) (parts (entries s to w)) r ps ps₀
-  pub room-v : length es ≤ length vs₀
-  pub room-p : length es ≤ length ps₀
 
-pub none-filled : (s : Strides) (to : ℕ) (w : Walk) (vs ps : List ℕ) → Forward s to w → length (entries s to w) ≤ length vs → length (entries s to w) ≤ length ps
+pub none-filled : {s : Strides} {to : ℕ} {w : Walk} {vs ps : List ℕ} → Forward s to w → length (entries s to w) ≤ length vs → length (entries s to w) ≤ length ps
     → Filling s to (entries s to w) w 0 vs ps vs ps
-none-filled s to w vs ps f h k = record {
-  counting = none-counted s to w f;
-  voxels-so = none-written (voxels (entries s to w)) vs;
-  parts-so = none-written (parts (entries s to w)) ps;
-  room-v = h;
-  room-p = k;
+none-filled {s} {to} {w} f h k = record {
+  counting = none-counted f;
+  voxels-so = none-written (omega (arith, length-map (entries s to w) (λ (e : Entry). e .voxel)));
+  parts-so = none-written (omega (arith, length-map (entries s to w) (λ (e : Entry). e .part)));
 }
 
-module _ (s : Strides) (to : ℕ) (es : List Entry) (w : Walk) (r : ℕ) (vs ps vs₀ ps₀ : List ℕ) (g : Filling s to es w r vs ps vs₀ ps₀) where
+module _ {s : Strides} {to : ℕ} {es : List Entry} {w : Walk} {r : ℕ} {vs ps vs₀ ps₀ : List ℕ} (g : Filling s to es w r vs ps vs₀ ps₀) where
   pub index-v : r < length vs
-  index-v = omega (arith, counted-below s to es w r (g .counting), g .voxels-so .size, g .room-v)
+  index-v = omega (arith, counted-below (g .counting), length-map es (λ (e : Entry). e .voxel), g .voxels-so .room, g .voxels-so .size)
 
   pub index-p : r < length ps
-  index-p = omega (arith, counted-below s to es w r (g .counting), g .parts-so .size, g .room-p)
+  index-p = omega (arith, counted-below (g .counting), length-map es (λ (e : Entry). e .part), g .parts-so .room, g .parts-so .size)
 
   pub last-filled : to ≤ soonest w → Filled es (r + 1) (set vs r (w .v % 2 ^ 32)) (set ps r (to - w .t)) vs₀ ps₀
   last-filled h =
-      let e : entries s to w ≡ entry w to ∷ [] = entries-last s to w (g .counting .forward) h in
-      let v = one-written (voxels es) [] (w .v % 2 ^ 32) r vs vs₀ (rw e at (g .voxels-so)) index-v in
-      let p = one-written (parts es) [] (to - w .t) r ps ps₀ (rw e at (g .parts-so)) index-p in
+      let e : entries s to w ≡ entry w to ∷ [] = entries-last (g .counting .forward) h in
+      let v = one-written {ys = []} {x = w .v % 2 ^ 32} (rw e at (g .voxels-so)) index-v in
+      let p = one-written {ys = []} {x = to - w .t} (rw e at (g .parts-so)) index-p in
       record {
-        number = last-counted s to es w r (g .counting) h;
-        voxels-are = all-written _ _ _ vs₀ v;
-        parts-are = all-written _ _ _ ps₀ p;
+        number = last-counted (g .counting) h;
+        voxels-are = all-written v;
+        parts-are = all-written p;
         voxels-rest = v .back;
         parts-rest = p .back;
       }
 
   pub one-filled : soonest w < to → Filling s to es (stepped s w) (r + 1) (set vs r (w .v % 2 ^ 32)) (set ps r (soonest w - w .t)) vs₀ ps₀
   one-filled h =
-      let e : entries s to w ≡ entry w (soonest w) ∷ entries s to (stepped s w) = entries-more s to w (g .counting .forward) h in
+      let e : entries s to w ≡ entry w (soonest w) ∷ entries s to (stepped s w) = entries-more (g .counting .forward) h in
       record {
-        counting = one-counted s to es w r (g .counting) h;
-        voxels-so = one-written (voxels es) (voxels (entries s to (stepped s w))) (w .v % 2 ^ 32) r vs vs₀ (rw e at (g .voxels-so)) index-v;
-        parts-so = one-written (parts es) (parts (entries s to (stepped s w))) (soonest w - w .t) r ps ps₀ (rw e at (g .parts-so)) index-p;
-        room-v = g .room-v;
-        room-p = g .room-p;
+        counting = one-counted (g .counting) h;
+        voxels-so = one-written (rw e at (g .voxels-so)) index-v;
+        parts-so = one-written (rw e at (g .parts-so)) index-p;
       }

@@ -29,21 +29,25 @@ jumpOf t Z = t .vz
 abbrev pub soonest : Walk → ℕ
 soonest w = min (w .x) (min (w .y) (w .z))
 
--- a leave tick, and the voxel's number, where an axis is left at u
-abbrev pub further : ℕ → ℕ → ℕ → ℕ
-further leave step u = cond (eqb leave u) (leave + step) leave
+-- the tick of the plane after the one by which the walk leaves its voxel on a side: planes lie at equal steps, and nothing else here says so
+abbrev pub next : Strides → Walk → Side → ℕ
+next s w o = leaveOf w o + stepOf s o
 
-abbrev pub hop : ℕ → ℕ → ℕ → ℕ → ℕ
-hop leave stride u v = cond (eqb leave u) ((v + stride) % 2 ^ 64) v
+-- a leave tick, and the voxel's number, where a side is left at u
+abbrev pub further : Strides → Walk → ℕ → Side → ℕ
+further s w u o = cond (eqb (leaveOf w o) u) (next s w o) (leaveOf w o)
+
+abbrev pub hop : Strides → Walk → ℕ → Side → ℕ → ℕ
+hop s w u o v = cond (eqb (leaveOf w o) u) ((v + jumpOf s o) % 2 ^ 64) v
 
 unfoldable pub stepped : Strides → Walk → Walk
 stepped s w =
     let u : ℕ = soonest w in
     record {
-      x = further (w .x) (s .dx) u;
-      y = further (w .y) (s .dy) u;
-      z = further (w .z) (s .dz) u;
-      v = hop (w .z) (s .vz) u (hop (w .y) (s .vy) u (hop (w .x) (s .vx) u (w .v)));
+      x = further s w u X;
+      y = further s w u Y;
+      z = further s w u Z;
+      v = hop s w u Z (hop s w u Y (hop s w u X (w .v)));
       t = u;
     }
 
@@ -72,16 +76,10 @@ entries s to w = go (to - w .t) s to w
 
 -- what keeps the sums within 64 bits and the walk going forward
 pub record Forward (s : Strides) (to : ℕ) (w : Walk) : Type 0 where
-  pub dx-some : 0 < s .dx
-  pub dy-some : 0 < s .dy
-  pub dz-some : 0 < s .dz
-  pub dx-size : s .dx ≤ 2 ^ 60
-  pub dy-size : s .dy ≤ 2 ^ 60
-  pub dz-size : s .dz ≤ 2 ^ 60
+  pub steps-some : (o : Side) → 0 < stepOf s o
+  pub steps-size : (o : Side) → stepOf s o ≤ 2 ^ 60
+  pub leaves-size : (o : Side) → leaveOf w o ≤ 2 ^ 61
   pub to-size : to ≤ 2 ^ 60
-  pub x-size : w .x ≤ 2 ^ 61
-  pub y-size : w .y ≤ 2 ^ 61
-  pub z-size : w .z ≤ 2 ^ 61
   pub later : w .t < soonest w
   pub before : w .t < to
 

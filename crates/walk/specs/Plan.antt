@@ -3,10 +3,9 @@ use Prim.Native.Nat.{ℕ, _+_, _*_, _^_, _≤_, _<_}
 use mathlib.Core.Path.{_≡_}
 use mathlib.Core.Bool.{not}
 use mathlib.Core.List.{map}
-use Rattle.axis.specs.Leg.{leaves}
 use Rattle.ray.specs.Length.{Side, X, Y, Z, Volume, rest, dOf, array, start, stop, misses, partOf, listOf, crossedOf}
 use Rattle.line.specs.declared.scene.Scene.{Scene}
-use Rattle.line.specs.Scene.{legN, slabN, plane, line, volumeOf, rayOf, Within}
+use Rattle.line.specs.Scene.{line, volumeOf, rayOf, leavesAt, Within}
 use Rattle.walk.specs.declared.steps.Walk.{Walk}
 use Rattle.walk.specs.declared.steps.Strides.{Strides}
 use Rattle.walk.specs.declared.plan.Frame.{Frame}
@@ -41,7 +40,7 @@ pub record Strided (s : Scene) (f : Frame) (t : Strides) : Type 0 where
 pub record Begun (s : Scene) (f : Frame) (w : Walk) : Type 0 where
   pub at : Side → ℕ
   pub within : (o : Side) → Within (line s o) (restOf f o) (f .from) (at o)
-  pub leaves-at : (o : Side) → leaveOf w o ≡ leaves (restOf f o) (legN (line s o .p) (line s o .q)) (slabN (plane (line s o) (at o)) (plane (line s o) (at o + 1)))
+  pub leaves-at : (o : Side) → leaveOf w o ≡ leavesAt (line s o) (restOf f o) (at o) (at o + 1)
   pub leaves-size : (o : Side) → leaveOf w o ≤ 2 ^ 60
   pub number : w .v ≡ (at Z * s .y .n + at Y) * s .x .n + at X
   pub tick : w .t ≡ f .from

@@ -16,10 +16,10 @@ count-requires c κs = search needs
 returns : tie.Need-returns
 returns c =
     let k = c .before .before .before in
-    c .count .ensures ∙ number _ (k .before .pre) _ (k .frame-of .ensures) (c .before .before .if1 .taken) _ (c .before .plan-of .ensures .0)
+    c .count .ensures ∙ number (k .before .pre) (k .frame-of .ensures) (c .before .before .if1 .taken) (c .before .plan-of .ensures .0)
 
 returns-2 : tie.Need-returns-2
-returns-2 c = none _ (c .before .before .pre) _ (c .before .frame-of .ensures) (c .if1 .left)
+returns-2 c = none (c .before .before .pre) (c .before .frame-of .ensures) (c .if1 .left)
 
 pub entries-of-spec : {M : Type 1} → statement M
 entries-of-spec = tie.close (tie.spec frame-of-requires plan-of-requires count-requires returns returns-2)

@@ -40,10 +40,10 @@ plan-of-requires c κs = search needs
 enter-requires : tie.Need-enter-requires
 enter-requires c κs =
     let k = c .before .before in
-    (planned k .forward, (few (s k) (able k) (f k) (framed k) (hit k) _ (planned k), c .before .before .before .before .before .before .before .before .pre .1))
+    (planned k .forward, (few (able k) (framed k) (hit k) (planned k), c .before .before .before .before .before .before .before .before .pre .1))
 
 sub-span : tie.Need-sub-span
-sub-span c = let k = c .before .before .before .before .before .before .before .before in from-to (s k) (able k) (f k) (framed k) (hit k) _ (planned k)
+sub-span c = let k = c .before .before .before .before .before .before .before .before in from-to (able k) (framed k) (hit k) (planned k)
 
 same-length : tie.Need-same-length
 same-length c = search needs
@@ -54,10 +54,10 @@ same-length-2 c = search needs
 returns : tie.Need-returns
 returns c =
     let k = c .before .before .before .before .before .before .before .before in
-    hit-walked (s k) (able k) (f k) (framed k) (hit k) _ (planned k) _ _ (c .before .before .before .before .before .enter .ensures) (k .before .before .squared-of .ensures)
+    hit-walked (able k) (framed k) (hit k) (planned k) _ _ (c .before .before .before .before .before .enter .ensures) (k .before .before .squared-of .ensures)
 
 returns-2 : tie.Need-returns-2
-returns-2 c = miss-walked _ (c .before .before .before .before .before .pre .0) _ (c .before .before .frame-of .ensures) (c .if1 .left) _ (c .before .squared-of .ensures)
+returns-2 c = miss-walked (c .before .before .before .before .before .pre .0) (c .before .before .frame-of .ensures) (c .if1 .left) _ (c .before .squared-of .ensures)
 
 pub walk-spec : {M : Type 1} → statement M
 walk-spec =

@@ -1,7 +1,7 @@
 use Prim.Native.Nat.{_-_}
 use native.Mathlib.Omega.{arith}
 use Rattle.walk.specs.Model.{entries}
-use Rattle.walk.proofs.Turns.{step-fits, next-tick, Counting, none-counted, counted-below, last-counted, one-counted}
+use Rattle.walk.proofs.Turns.{step-fits, next-tick, Counting, none-counted, counted-few, last-counted, one-counted}
 use Rattle.walk.proofs.entries.count.Statement.{statement}
 use Rattle.walk.proofs.entries.count.Tie as tie
 
@@ -12,41 +12,25 @@ abbrev μ-loop : tie.MeasureT-loop
 μ-loop s to w₀ r₀ w r = to - w .t
 
 loop-holds : tie.Need-loop-holds Inv-loop μ-loop
-loop-holds c = none-counted (c .args .s) (c .args .to) (c .args .begin) (c .pre)
+loop-holds c = none-counted (c .pre)
 
 step-requires : tie.Need-step-requires Inv-loop μ-loop
-step-requires c κs =
-    let a = c .before .args in
-    let l = c .loop in
-    step-fits (a .s) (a .to) (l .w) (l .inv .forward)
+step-requires c κs = step-fits (c .loop .inv .forward)
 
 add-r : tie.Need-add-r Inv-loop μ-loop
-add-r c =
-    let a = c .before .before .args in
-    let l = c .before .loop in
-    record { fits = omega (arith, counted-below (a .s) (a .to) (entries (a .s) (a .to) (a .begin)) (l .w) (l .r) (l .inv), l .inv .few) }
+add-r c = record { fits = omega (arith, counted-few (c .before .loop .inv)) }
 
 returns : tie.Need-returns Inv-loop μ-loop
-returns c =
-    let a = c .before .before .before .before .args in
-    let l = c .before .before .before .loop in
-    let u = next-tick (a .s) (a .to) (l .w) (c .before .before .step .ensures) in
-    last-counted (a .s) (a .to) (entries (a .s) (a .to) (a .begin)) (l .w) (l .r) (l .inv) (omega (arith, u, c .if1 .taken))
+returns c = let v = c .before .before .before .loop .inv in last-counted v (omega (arith, next-tick (v .forward) (c .before .before .step .ensures), c .if1 .taken))
 
 loop-less : tie.Need-loop-less Inv-loop μ-loop
-loop-less c =
-    let a = c .before .before .before .before .args in
-    let l = c .before .before .before .loop in
-    let u = next-tick (a .s) (a .to) (l .w) (c .before .before .step .ensures) in
-    omega (arith, u, l .inv .forward .later, l .inv .forward .before)
+loop-less c = let f = c .before .before .before .loop .inv .forward in omega (arith, next-tick f (c .before .before .step .ensures), f .later, f .before)
 
 loop-again : tie.Need-loop-again Inv-loop μ-loop
 loop-again c =
-    let a = c .before .before .before .before .args in
-    let l = c .before .before .before .loop in
+    let v = c .before .before .before .loop .inv in
     let e = c .before .before .step .ensures in
-    let u = next-tick (a .s) (a .to) (l .w) e in
-    rw e (one-counted (a .s) (a .to) (entries (a .s) (a .to) (a .begin)) (l .w) (l .r) (l .inv) (omega (arith, u, c .if1 .left)))
+    rw e (one-counted v (omega (arith, next-tick (v .forward) e, c .if1 .left)))
 
 pub count-spec : {M : Type 1} → statement M
 count-spec =

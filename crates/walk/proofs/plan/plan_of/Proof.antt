@@ -14,11 +14,10 @@ crossed-of-requires c κs = search needs
 
 returns : tie.Need-returns
 returns c =
-    let a = c .before .before .before .args in
     let p = c .before .before .before .pre in
-    let w = c .before .before .walk-of in
-    let t = c .before .strides-of in
-    (planned (a .s) (p .0) (a .f) (p .1) (p .2) (w .result) (w .ensures) (t .result) (t .ensures) _ (c .crossed-of .ensures), (w .ensures, t .ensures))
+    let w = c .before .before .walk-of .ensures in
+    let t = c .before .strides-of .ensures in
+    (planned (p .0) (p .1) (p .2) w t _ (c .crossed-of .ensures), (w, t))
 
 pub plan-of-spec : {M : Type 1} → statement M
 plan-of-spec =

@@ -21,7 +21,7 @@ returns : tie.Need-returns
 returns c =
     let a = c .before .before .before .args in
     let z = c .before .before .before .pre .0 .0 in (
-      c .apart .ensures ∙ crossed-is (a .self) (a .c) (a .from) (a .to) _ _ (c .before .before .index .ensures) (c .before .index2 .ensures) (c .before .before .before .pre .0 .1) (z .wide),
+      c .apart .ensures ∙ crossed-is (a .self) (a .c) z (a .from) (a .to) _ _ (c .before .before .index .ensures) (c .before .index2 .ensures) (c .before .before .before .pre .0 .1),
       omega (arith, c .apart .ensures, c .before .before .index .ensures .inside, c .before .index2 .ensures .inside, z .n-size),
     )
 

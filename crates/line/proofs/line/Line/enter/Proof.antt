@@ -17,7 +17,9 @@ least-requires : tie.Need-least-requires
 least-requires c κs = search needs
 
 returns-2 : tie.Need-returns-2
-returns-2 c = λ rest. let a = c .before .before .before .before .before .args .self in rw (moves (a .p) (a .q) (c .before .before .before .if1 .left), c .least .ensures, c .before .run2 .ensures, c .before .before .run .ensures)
+returns-2 c = λ rest.
+    let a = c .before .before .before .before .before .args .self in
+    rw (moves (a .p) (a .q) (c .before .before .before .if1 .left), c .least .ensures, c .before .run2 .ensures, c .before .before .run .ensures)
 
 pub enter-spec : {M : Type 1} → statement M
 enter-spec = tie.close (tie.spec returns run-requires run-requires-2 least-requires returns-2)

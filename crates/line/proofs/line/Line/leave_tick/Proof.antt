@@ -3,26 +3,31 @@ use mathlib.Core.Path.{_≡_, ap, _∙_}
 use native.Mathlib.Omega.{arith}
 use Rattle.axis.specs.Leg.{leaves}
 use Rattle.line.specs.declared.line.Line.{Line}
-use Rattle.line.specs.Scene.{legN, slabN, plane}
-use Rattle.line.proofs.Sizes.{three-sizes, leave-size}
+use Rattle.line.specs.Scene.{legN, slabN, plane, leavesAt}
+use Rattle.line.proofs.Sizes.{leave-ticks}
 use borrow.Author.Needs.{needs}
 use Rattle.line.proofs.line.Line.leave_tick.Statement.{statement}
 use Rattle.line.proofs.line.Line.leave_tick.Tie as tie
 
-abbrev axis : tie.After-leave → Line
-axis c = c .before .before .before .args .self
+-- where the code has asked for all of it
+module _ (c : tie.After-leave) where
+  abbrev start : tie.Start
+  start = c .before .before .before
 
-abbrev voxel : tie.After-leave → ℕ
-voxel c = c .before .before .before .args .i
+  abbrev a : Line
+  a = start .args .self
 
-so : (c : tie.After-leave) (rest : ℕ) → c .leave .result * rest ≡ leaves rest (legN (axis c .p) (axis c .q)) (slabN (plane (axis c) (voxel c)) (plane (axis c) (voxel c + 1)))
-so c rest =
-    c .leave .ensures rest
-    ∙ ap (λ (lo : ℕ). leaves rest (legN (axis c .p) (axis c .q)) (slabN lo (c .before .plane2 .result))) (c .before .before .plane .ensures)
-    ∙ ap (λ (hi : ℕ). leaves rest (legN (axis c .p) (axis c .q)) (slabN (plane (axis c) (voxel c)) hi)) (c .before .plane2 .ensures)
+  abbrev i : ℕ
+  i = start .args .i
 
-few : (c : tie.After-leave) → c .leave .result ≤ 2 ^ 20
-few c = leave-size (axis c) (c .before .before .before .pre .0) {i = voxel c} {j = voxel c + 1} (omega arith) (omega (arith, c .before .before .before .pre .2)) _ (so c)
+  so : c .leave .result * start .args .c ≡ leavesAt a (start .args .c) i (i + 1)
+  so =
+      c .leave .ensures (start .args .c)
+      ∙ ap (λ (lo : ℕ). leaves (start .args .c) (legN (a .p) (a .q)) (slabN lo (c .before .plane2 .result))) (c .before .before .plane .ensures)
+      ∙ ap (λ (hi : ℕ). leaves (start .args .c) (legN (a .p) (a .q)) (slabN (plane a i) hi)) (c .before .plane2 .ensures)
+
+  few : c .leave .result * start .args .c ≤ 2 ^ 60
+  few = rw so (leave-ticks a (start .pre .0) (omega arith) (omega (arith, start .pre .2)) (start .pre .1))
 
 plane-requires : tie.Need-plane-requires
 plane-requires c κs = search needs
@@ -37,10 +42,10 @@ leave-requires : tie.Need-leave-requires
 leave-requires c κs = search needs
 
 mul-result : tie.Need-mul-result
-mul-result c = record { fits = omega (arith, three-sizes (few c) (c .before .before .before .pre .1)) }
+mul-result c = record { fits = omega (arith, few c) }
 
 returns : tie.Need-returns
-returns c = (so c (c .before .before .before .args .c), three-sizes (few c) (c .before .before .before .pre .1))
+returns c = (so c, few c)
 
 pub leave-tick-spec : {M : Type 1} → statement M
 leave-tick-spec =
