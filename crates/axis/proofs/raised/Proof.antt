@@ -52,13 +52,21 @@ add-sum : tie.Need-add-sum
 add-sum c = rw (sum-is (c .args .c) (c .args .by) (c .fits .c) (c .fits .by)) (sum-fits (c .args .c) (c .args .by) (c .fits .c) (c .fits .by))
 
 cast-result : tie.Need-cast-result
-cast-result c = let s = c .before in rw (back (s .args .c) (s .args .by) (s .fits .c) (s .fits .by)) (whole (s .args .c +ℤ pos (s .args .by)) (sum-fits (s .args .c) (s .args .by) (s .fits .c) (s .fits .by)) (rw (back (s .args .c) (s .args .by) (s .fits .c) (s .fits .by)) at (c .if1 .left)))
+cast-result c =
+    let s = c .before in
+    let e = back (s .args .c) (s .args .by) (s .fits .c) (s .fits .by) in
+    rw e (whole (s .args .c +ℤ pos (s .args .by)) (sum-fits (s .args .c) (s .args .by) (s .fits .c) (s .fits .by)) (rw e at (c .if1 .left)))
 
 returns : tie.Need-returns
-returns c = let s = c .before in below (s .args .c +ℤ pos (s .args .by)) (rw (back (s .args .c) (s .args .by) (s .fits .c) (s .fits .by)) at (c .if1 .taken))
+returns c =
+    let s = c .before in
+    below (s .args .c +ℤ pos (s .args .by)) (rw (back (s .args .c) (s .args .by) (s .fits .c) (s .fits .by)) at (c .if1 .taken))
 
 returns-2 : tie.Need-returns-2
-returns-2 c = let s = c .before in rw (back (s .args .c) (s .args .by) (s .fits .c) (s .fits .by)) (not-below (s .args .c +ℤ pos (s .args .by)) (rw (back (s .args .c) (s .args .by) (s .fits .c) (s .fits .by)) at (c .if1 .left)))
+returns-2 c =
+    let s = c .before in
+    let e = back (s .args .c) (s .args .by) (s .fits .c) (s .fits .by) in
+    rw e (not-below (s .args .c +ℤ pos (s .args .by)) (rw e at (c .if1 .left)))
 
 pub raised-spec : {M : Type 1} → statement M
 raised-spec = tie.close (tie.spec cast-sum cast-sum-2 add-sum cast-result returns returns-2)

@@ -13,16 +13,24 @@ spacing-out-requires : tie.Need-spacing-out-requires
 spacing-out-requires c κs = search needs
 
 returns-2 : tie.Need-returns-2
-returns-2 c = rw (sym (c .before .before .before .count-out .ensures) ∙ c .before .before .if1 .left, sym (c .before .spacing-out .ensures) ∙ c .if2 .taken) refl
+returns-2 c =
+    let one = c .before .before in
+    rw (sym (one .before .count-out .ensures) ∙ one .if1 .left, sym (c .before .spacing-out .ensures) ∙ c .if2 .taken) refl
 
 planes-out-requires : tie.Need-planes-out-requires
 planes-out-requires c κs = search needs
 
 returns-3 : tie.Need-returns-3
-returns-3 c = rw (sym (c .before .before .before .before .before .count-out .ensures) ∙ c .before .before .before .before .if1 .left, sym (c .before .before .before .spacing-out .ensures) ∙ c .before .before .if2 .left, sym (c .before .planes-out .ensures) ∙ c .if3 .taken)
+returns-3 c =
+    let two = c .before .before in
+    let one = two .before .before in
+    rw (sym (one .before .count-out .ensures) ∙ one .if1 .left, sym (two .before .spacing-out .ensures) ∙ two .if2 .left, sym (c .before .planes-out .ensures) ∙ c .if3 .taken)
 
 returns-4 : tie.Need-returns-4
-returns-4 c = rw (sym (c .before .before .before .before .before .count-out .ensures) ∙ c .before .before .before .before .if1 .left, sym (c .before .before .before .spacing-out .ensures) ∙ c .before .before .if2 .left, sym (c .before .planes-out .ensures) ∙ c .if3 .left)
+returns-4 c =
+    let two = c .before .before in
+    let one = two .before .before in
+    rw (sym (one .before .count-out .ensures) ∙ one .if1 .left, sym (two .before .spacing-out .ensures) ∙ two .if2 .left, sym (c .before .planes-out .ensures) ∙ c .if3 .left)
 
 pub code-spec : {M : Type 1} → statement M
 code-spec =

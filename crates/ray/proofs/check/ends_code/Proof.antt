@@ -14,10 +14,16 @@ ends-differ-requires : tie.Need-ends-differ-requires
 ends-differ-requires c κs = search needs
 
 returns-2 : tie.Need-returns-2
-returns-2 c = let a = c .before .before .before .before .args in rw (ends-are (a .m) (a .r), sym (c .before .before .before .ends-out .ensures) ∙ c .before .before .if1 .left, sym (c .before .ends-differ .ensures) ∙ c .if2 .taken)
+returns-2 c =
+    let one = c .before .before in
+    let a = one .before .before .args in
+    rw (ends-are (a .m) (a .r), sym (one .before .ends-out .ensures) ∙ one .if1 .left, sym (c .before .ends-differ .ensures) ∙ c .if2 .taken)
 
 returns-3 : tie.Need-returns-3
-returns-3 c = let a = c .before .before .before .before .args in rw (ends-are (a .m) (a .r), sym (c .before .before .before .ends-out .ensures) ∙ c .before .before .if1 .left, sym (c .before .ends-differ .ensures) ∙ c .if2 .left)
+returns-3 c =
+    let one = c .before .before in
+    let a = one .before .before .args in
+    rw (ends-are (a .m) (a .r), sym (one .before .ends-out .ensures) ∙ one .if1 .left, sym (c .before .ends-differ .ensures) ∙ c .if2 .left)
 
 pub ends-code-spec : {M : Type 1} → statement M
 ends-code-spec =
