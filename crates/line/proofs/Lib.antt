@@ -7,4 +7,5 @@ pub mod Sizes
 pub mod Three
 pub mod Scenes
 pub mod Raised
+pub mod Tenths
 pub mod Once

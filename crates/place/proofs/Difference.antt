@@ -1,26 +1,29 @@
 -- A signed number as a difference of two numbers without a sign: its sum, its multiple, its order. A point on a leg, so. Assumes nothing.
 use Prim.Native.Nat.{ℕ, zero, suc, _+_, _-_, _*_, _≤_}
 use mathlib.Core.Path.{_≡_, refl, sym, ap, _∙_}
-use native.Mathlib.Nat.{mul-le-mul-right, mul-comm, mul-le-mul-left, zero-mul, mul-sub}
+use native.Mathlib.Nat.{mul-le-mul-right, mul-le-mul-left, zero-mul, mul-sub}
 use native.Mathlib.Omega.{arith}
 use native.Mathlib.Decide.{decLe}
-use lib.IntN.{ℤ, pos, negℤ, natAbs, _+ℤ_, _-ℤ_, _*ℤ_, +ℤ-assoc, +ℤ-comm, +ℤ-invl, +ℤ-negℤ-cancel, negℤ-+ℤ, *ℤ-comm}
-use lib.Signed.{leZ, ≤ℤ-refl}
+use lib.IntN.{ℤ, pos, negℤ, natAbs, _+ℤ_, _-ℤ_, _*ℤ_, +ℤ-assoc, +ℤ-comm, +ℤ-negℤ-cancel, negℤ-+ℤ, *ℤ-comm}
+use lib.Signed.{leZ, nonNeg}
 use lib.Dec.{T, le→leb}
 use borrow.Author.Tests.{le-ltb}
-use Rattle.axis.specs.Leg.{Leg, natural}
-use Rattle.axis.proofs.Shift.{shift, Low, shift-is, shift-order, shift-add, low-add}
-use Rattle.place.proofs.Raised.{neg-minus, abs-pos}
+use Rattle.axis.specs.Leg.{Leg}
+use Rattle.axis.proofs.Shift.{shift, Low, shift-is}
+use Rattle.ray.proofs.MovedAxis.{le-sign, diff-on}
+use Rattle.ray.proofs.Through.{sub-times}
+use Rattle.ray.proofs.Told.{neg-diff}
+use Rattle.line.proofs.Units.{abs-gap}
 
 diff-ge : (a b : ℕ) → b ≤ a → pos a -ℤ pos b ≡ pos (a - b)
 diff-ge a zero h = ap pos (omega arith)
 diff-ge a (suc b) h = rw (le-ltb a (suc b) h)
 
 diff-le : (a b : ℕ) → a ≤ b → pos a -ℤ pos b ≡ negℤ (pos (b - a))
-diff-le a b h = sym (neg-minus (pos b) (pos a)) ∙ ap negℤ (diff-ge b a h)
+diff-le a b h = sym (neg-diff (pos b) (pos a)) ∙ ap negℤ (diff-ge b a h)
 
 pub diff-size : (a b : ℕ) → natAbs (pos a -ℤ pos b) ≤ a + b
-diff-size a b = omega (arith, abs-pos a b)
+diff-size a b = omega (arith, abs-gap b a)
 
 -- two differences of one number
 diff-same : (a b c d : ℕ) → a + d ≡ c + b → pos a -ℤ pos b ≡ pos c -ℤ pos d
@@ -42,9 +45,6 @@ neg-times : (n c : ℕ) → negℤ (pos n) *ℤ pos c ≡ negℤ (pos (n * c))
 neg-times zero c = rw (zero-mul c)
 neg-times (suc n) c = refl
 
-sub-times : (a b c : ℕ) → (a - b) * c ≡ a * c - b * c
-sub-times a b c = rw (mul-comm (a - b) c, mul-sub c a b, mul-comm c a, mul-comm c b)
-
 pub diff-times : (a b c : ℕ) → (pos a -ℤ pos b) *ℤ pos c ≡ pos (a * c) -ℤ pos (b * c)
 diff-times a b c = elim (decLe b a) [
   | yes h ↦ rw (diff-ge a b h, diff-ge (a * c) (b * c) (mul-le-mul-right c h)) (ap pos (sub-times a b c))
@@ -54,12 +54,10 @@ diff-times a b c = elim (decLe b a) [
 ]
 
 -- the order of two differences from one number
-pub diff-order : (a b c : ℕ) → a ≤ b → T (leZ (pos a -ℤ pos c) (pos b -ℤ pos c))
-diff-order a b c h =
+pub diff-order : {y z : ℤ} (a b c : ℕ) → y ≡ pos a -ℤ pos c → z ≡ pos b -ℤ pos c → a ≤ b → T (leZ y z)
+diff-order a b c e f h =
     let o = negℤ (pos c) in
-    let low : Low c o = ≤ℤ-refl o .le in
-    let at : (n : ℕ) → shift c (o +ℤ pos n) ≡ n = λ n. shift-add c o n low ∙ ap (λ (z : ℤ). natural z + n) (+ℤ-invl (pos c)) ∙ omega arith in
-    rw (+ℤ-comm (pos a) o, +ℤ-comm (pos b) o, shift-order c (o +ℤ pos a) (o +ℤ pos b) (low-add c o a low) (low-add c o b low), at a, at b) (le→leb a b h)
+    rw (e, f, le-sign (pos a +ℤ o) (pos b +ℤ o) ∙ ap nonNeg (diff-on o (pos b) (pos a)) ∙ sym (le-sign (pos a) (pos b))) (le→leb a b h)
 
 -- a coordinate told from -k up
 pub told : (k : ℕ) (z : ℤ) → Low k z → z ≡ pos (shift k z) -ℤ pos k
@@ -74,12 +72,7 @@ module _ (k : ℕ) (l : Leg) (from : Low k (l .p)) (to : Low k (l .q)) (t d : �
   q = shift k (l .q)
 
   step : l .q -ℤ l .p ≡ pos q -ℤ pos p
-  step =
-      ap (λ (z : ℤ). z -ℤ l .p) (told k (l .q) to)
-      ∙ ap (λ (z : ℤ). pos q -ℤ pos k +ℤ negℤ z) (told k (l .p) from)
-      ∙ ap (λ (z : ℤ). pos q -ℤ pos k +ℤ z) (neg-minus (pos p) (pos k))
-      ∙ diff-add q k k p
-      ∙ diff-same (q + k) (k + p) q p (omega arith)
+  step = sym (diff-on (pos k) (l .q) (l .p)) ∙ (λ i. shift-is k (l .q) to i -ℤ shift-is k (l .p) from i)
 
   pub point-is : l .p *ℤ pos d +ℤ pos t *ℤ (l .q -ℤ l .p) ≡ pos (p * (d - t) + q * t) -ℤ pos (k * d)
   point-is =

@@ -11,6 +11,7 @@ use Rattle.axis.specs.declared.Limits.{Limits}
 use Rattle.ray.specs.declared.Grid.{Grid}
 use Rattle.ray.specs.declared.Ray.{Ray}
 use Rattle.ray.specs.Length.{Side, X, Y, Z, leg, dOf, volume, array, misses}
+use Rattle.ray.proofs.Accepted.{ends-inside}
 use Rattle.ray.proofs.Capped.{stop-cap}
 use Rattle.ray.proofs.Fraction.{Fraction, Is, at, least0}
 use Rattle.ray.proofs.Formula.{αmin, αmax, αmin-is}
@@ -19,7 +20,7 @@ use Rattle.place.specs.declared.Place.the-variants as place
 use Rattle.place.specs.declared.Point.{Point}
 use Rattle.place.specs.declared.Mark.the-variants as mark
 use Rattle.place.specs.Answers.{nearest, coordinate, refusalOf, placeOf, pointAt, pointsOf}
-use Rattle.place.proofs.Accepted.{Accepted, accepted}
+use Rattle.place.proofs.Accepted.{accepted}
 use Rattle.place.proofs.Signed.{nearest-same}
 use Rattle.place.proofs.OnLeg.{coordinate-is}
 
@@ -47,9 +48,8 @@ module _ (m : Limits) (g : Grid) (r : Ray) (ok : refusalOf m g r ≡ 0) (hit : m
   module _ {α : Fraction} {t : ℕ} (p : Is (dOf r) α t) (most : t ≤ dOf r) where
     along-is : (s : Side) → nearestTo (along (leg r s) α) ≡ coordinate (leg r s) t (dOf r)
     along-is s =
-        let h : Accepted m g r = accepted m g r ok in
         ap (λ (z : ℤ). nearest (leg r s .p *ℤ pos (α .den) +ℤ z *ℤ (leg r s .q -ℤ leg r s .p)) (α .den)) (least0 (dOf r) p)
-        ∙ coordinate-is m (leg r s) (h .from s) (h .to s) (natural (α .num)) (α .den) t (dOf r) (p .den-pos) (p .d-pos) most (at (dOf r) p)
+        ∙ coordinate-is m (leg r s) (ends-inside m r (accepted m g r ok .ends) s) (natural (α .num)) (α .den) t (dOf r) (p .den-pos) (p .d-pos) most (at (dOf r) p)
 
     point-is : pointTo r α ≡ pointAt r t (dOf r)
     point-is = rw (along-is X, along-is Y, along-is Z)

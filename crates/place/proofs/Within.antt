@@ -1,102 +1,95 @@
 -- A place of the ray that is in the array is between the planes of every axis: over numbers without a sign. Assumes nothing.
-use Prim.Native.Nat.{ℕ, _+_, _-_, _*_, _≤_, _<_}
+use Prim.Native.Nat.{ℕ, _+_, _-_, _*_, _^_, _≤_, _<_}
 use mathlib.Core.Path.{_≡_, sym, ap, _∙_}
-use mathlib.Core.Bool.{true, _&&_}
-use native.Mathlib.Nat.{mul-le-mul-right, mul-le-mul-left, mul-comm, mul-assoc, mul-left-comm, mul-sub, add-mul, le-trans, le-of-eq, le-of-lt}
+use mathlib.Core.Bool.{true}
+use native.Mathlib.Nat.{mul-le-mul-right, mul-le-mul-left, mul-comm, mul-assoc, mul-left-comm, mul-sub, add-mul, le-trans, le-of-eq, le-of-lt, lt-of-lt-of-le, min-le-left, min-le-right}
 use native.Mathlib.Omega.{arith}
-use native.Mathlib.Decide.{decLt}
-use lib.Dec.{leb, ltb}
-use borrow.Author.Tests.{leb-true, ltb-true}
-use Rattle.axis.proofs.Flag.{and-left, and-right}
-use Rattle.place.specs.declared.crossing.Stretch.{Stretch}
-use Rattle.place.proofs.Raised.{plain, leap, rising, falling, standing}
+use lib.Ieee.Positive.{first-pos}
+use Rattle.axis.specs.Leg.{factor, held}
+use Rattle.ray.specs.Length.{Side, leg, dOf, rest, array, start, stop, holds}
+use Rattle.ray.proofs.Way.{Way, up, down, still, Goes, factorBy}
+use Rattle.ray.proofs.Through.{sub-times}
+use Rattle.ray.proofs.Capped.{d-side}
+use Rattle.line.specs.declared.scene.Scene.{Scene}
+use Rattle.line.specs.Scene.{legN, plane, line}
+use Rattle.line.proofs.Units.{enterBy, leaveBy, HeldBy, factor-is}
+use Rattle.line.proofs.Three.{le-most, least-le}
+use Rattle.line.proofs.Scenes.{vol, ray, way, going, leg-is, enter, leave, start-array, stop-array, all-held, held-there}
+use Rattle.place.specs.declared.fraction.Fraction.{Fraction}
+use Rattle.place.specs.Deciding.{OnRay}
 
 -- the point t / d of the way from p to q, times d
 abbrev pub spot : ℕ → ℕ → ℕ → ℕ → ℕ
 spot p q t d = p * (d - t) + q * t
 
--- t is in the stretch, in units of which d has den · n
-pub record In (x : Stretch) (n t d : ℕ) : Type 0 where
-  pub whole : x .den * n ≡ d
-  pub held : x .held ≡ true
-  pub some : 0 < x .leave
-  pub after : x .enter * n ≤ t
-  pub until : t ≤ x .leave * n
-  pub most : t ≤ d
-
 split : (p t d : ℕ) → t ≤ d → p * (d - t) + p * t ≡ p * d
 split p t d h = omega (arith, mul-sub p d t, mul-le-mul-left p h)
 
-pub spot-most : (p q t d k : ℕ) → p ≤ k → q ≤ k → t ≤ d → spot p q t d ≤ k * d
+spot-most : (p q t d k : ℕ) → p ≤ k → q ≤ k → t ≤ d → spot p q t d ≤ k * d
 spot-most p q t d k hp hq h = omega (arith, mul-le-mul-right (d - t) hp, mul-le-mul-right t hq, split k t d h)
 
--- a plane c away from p, in units of which d has f · n
-passed : (c f n t d : ℕ) → f * n ≡ d → c * n ≤ t → c * d ≤ f * t
-passed c f n t d e h = le-trans (le-of-eq (ap (λ (k : ℕ). c * k) (sym e) ∙ mul-left-comm c f n)) (mul-le-mul-left f h)
+pub spot-short : (p q : ℕ) (f : Fraction) → p ≤ 2 ^ 20 → q ≤ 2 ^ 20 → OnRay f → spot p q (f .num) (f .den) ≤ 2 ^ 20 * 2 ^ 20
+spot-short p q f hp hq on = le-trans (spot-most p q (f .num) (f .den) (2 ^ 20) hp hq (on .most)) (mul-le-mul-left (2 ^ 20) (on .short .1))
 
-ahead : (c f n t d : ℕ) → f * n ≡ d → t ≤ c * n → f * t ≤ c * d
-ahead c f n t d e h = le-trans (mul-le-mul-left f h) (le-of-eq (mul-left-comm f c n ∙ ap (λ (k : ℕ). c * k) e))
+-- what lies between two planes
+abbrev pub Between : (lo hi p q t d : ℕ) → Type 0
+Between lo hi p q t d = (lo * d ≤ spot p q t d) × (spot p q t d ≤ hi * d)
 
-sum-is : (a b c d : ℕ) → a ≡ b + c → a * d ≡ b * d + c * d
-sum-is a b c d e = ap (λ (k : ℕ). k * d) e ∙ add-mul b c d
+-- t is in the stretch of one axis, in units of which d has the axis' factor times n
+record In (w : Way) (lo hi p q n t d : ℕ) : Type 0 where
+  goes : Goes w p q
+  whole : factorBy w p q * n ≡ d
+  held : HeldBy w p lo hi
+  some : 0 < leaveBy w p lo hi
+  after : enterBy w p lo hi * n ≤ t
+  until : t ≤ leaveBy w p lo hi * n
+  most : t ≤ d
 
-sum-most : (a b c d : ℕ) → a ≤ b + c → a * d ≤ b * d + c * d
-sum-most a b c d h = le-trans (mul-le-mul-right d h) (le-of-eq (add-mul b c d))
+-- a plane c units away
+away : (c f n d : ℕ) → f * n ≡ d → c * d ≡ f * (c * n)
+away c f n d e = ap (λ (k : ℕ). c * k) (sym e) ∙ mul-left-comm c f n
 
--- the same three over bare numbers, products by their names
-linear-up : (lo hi p a b f pt qt r : ℕ) → r + pt ≡ p → qt ≡ pt + f → a ≤ f → f ≤ b → lo ≤ p + a → hi ≡ p + b → (lo ≤ r + qt) × (r + qt ≤ hi)
-linear-up lo hi p a b f pt qt r s e u v w x = (omega arith, omega arith)
+ordered : (a b c : ℕ) → a ≤ b → a * c + (b - a) * c ≡ b * c
+ordered a b c h = omega (arith, sub-times b a c, mul-le-mul-right c h)
 
-linear-down : (lo hi p a b f pt qt r : ℕ) → r + pt ≡ p → pt ≡ qt + f → a ≤ f → f ≤ b → p ≤ hi + a → p ≡ lo + b → (lo ≤ r + qt) × (r + qt ≤ hi)
-linear-down lo hi p a b f pt qt r s e u v w x = (omega arith, omega arith)
+module _ {lo hi p q n t d : ℕ} where
+  between : (w : Way) → In w lo hi p q n t d → Between lo hi p q t d
+  between up i =
+      let at : spot p q t d ≡ p * d + (q - p) * t = omega (arith, split p t d (i .most), ordered p q t (omega (arith, i .goes))) in
+      let from : (lo - p) * d ≤ (q - p) * t = le-trans (le-of-eq (away (lo - p) (q - p) n d (i .whole))) (mul-le-mul-left (q - p) (i .after)) in
+      let to : (q - p) * t ≤ (hi - p) * d = le-trans (mul-le-mul-left (q - p) (i .until)) (le-of-eq (sym (away (hi - p) (q - p) n d (i .whole)))) in
+      (omega (arith, at, from, sub-times lo p d), omega (arith, at, to, ordered p hi d (omega (arith, i .some))))
+  between down i =
+      let at : spot p q t d + (p - q) * t ≡ p * d = omega (arith, split p t d (i .most), ordered q p t (omega (arith, i .goes))) in
+      let from : (p - hi) * d ≤ (p - q) * t = le-trans (le-of-eq (away (p - hi) (p - q) n d (i .whole))) (mul-le-mul-left (p - q) (i .after)) in
+      let to : (p - q) * t ≤ (p - lo) * d = le-trans (mul-le-mul-left (p - q) (i .until)) (le-of-eq (sym (away (p - lo) (p - q) n d (i .whole)))) in
+      (omega (arith, at, to, ordered lo p d (omega (arith, i .some))), omega (arith, at, from, sub-times p hi d))
+  between still i =
+      let at : spot p q t d ≡ p * d = ap (λ (x : ℕ). p * (d - t) + x * t) (sym (i .goes)) ∙ split p t d (i .most) in
+      (omega (arith, at, mul-le-mul-right d (i .held .0)), omega (arith, at, mul-le-mul-right d (le-of-lt (i .held .1))))
 
-linear-still : (lo hi p pt qt r : ℕ) → r + pt ≡ p → pt ≡ qt → lo ≤ p → p ≤ hi → (lo ≤ r + qt) × (r + qt ≤ hi)
-linear-still lo hi p pt qt r s e u v = (omega arith, omega arith)
-
-module _ (lo hi p q n t d : ℕ) (h : lo ≤ hi) where
-  abbrev Between : Type 0
-  Between = (lo * d ≤ spot p q t d) × (spot p q t d ≤ hi * d)
-
-  rise : p < q → In (leap (lo - p) (hi - p) (q - p)) n t d → Between
-  rise l i =
-      let s = split p t d (i .most) in
-      let e : q * t ≡ p * t + (q - p) * t = sum-is q p (q - p) t (omega arith) in
-      let a : (lo - p) * d ≤ (q - p) * t = passed (lo - p) (q - p) n t d (i .whole) (i .after) in
-      let b : (q - p) * t ≤ (hi - p) * d = ahead (hi - p) (q - p) n t d (i .whole) (i .until) in
-      let u : lo * d ≤ p * d + (lo - p) * d = sum-most lo p (lo - p) d (omega arith) in
-      let v : hi * d ≡ p * d + (hi - p) * d = sum-is hi p (hi - p) d (omega (arith, i .some)) in
-      linear-up (lo * d) (hi * d) (p * d) ((lo - p) * d) ((hi - p) * d) ((q - p) * t) (p * t) (q * t) (p * (d - t)) s e a b u v
-
-  fall : q < p → In (leap (p - hi) (p - lo) (p - q)) n t d → Between
-  fall l i =
-      let s = split p t d (i .most) in
-      let e : p * t ≡ q * t + (p - q) * t = sum-is p q (p - q) t (omega arith) in
-      let a : (p - hi) * d ≤ (p - q) * t = passed (p - hi) (p - q) n t d (i .whole) (i .after) in
-      let b : (p - q) * t ≤ (p - lo) * d = ahead (p - lo) (p - q) n t d (i .whole) (i .until) in
-      let u : p * d ≤ hi * d + (p - hi) * d = sum-most p hi (p - hi) d (omega arith) in
-      let v : p * d ≡ lo * d + (p - lo) * d = sum-is p lo (p - lo) d (omega (arith, i .some)) in
-      linear-down (lo * d) (hi * d) (p * d) ((p - hi) * d) ((p - lo) * d) ((p - q) * t) (p * t) (q * t) (p * (d - t)) s e a b u v
-
-  stand : p ≡ q → (leb lo p && ltb p hi) ≡ true → t ≤ d → Between
-  stand e k m =
-      let s = split p t d m in
-      let f : p * t ≡ q * t = ap (λ (x : ℕ). x * t) e in
-      let a : lo * d ≤ p * d = mul-le-mul-right d (leb-true lo p (and-left (leb lo p) _ k)) in
-      let b : p * d ≤ hi * d = mul-le-mul-right d (le-of-lt (ltb-true p hi (and-right (leb lo p) _ k))) in
-      linear-still (lo * d) (hi * d) (p * d) (p * t) (q * t) (p * (d - t)) s f a b
-
-  pub within : In (plain lo hi p q) n t d → Between
-  within i = elim (decLt p q) [
-    | yes l ↦ rise l (rw (rising lo hi p q h l) at i)
-    | no l ↦ elim (decLt q p) [
-      | yes l′ ↦ fall l′ (rw (falling lo hi p q h l′) at i)
-      | no l′ ↦ let e : p ≡ q = omega arith in let j = rw (standing lo hi p q h e) at i in stand e (j .held) (j .most)
-    ]
-  ]
+-- a place of the ray that is in the array
+module _ (s : Scene) (holding : holds (ray s) (array (vol s)) ≡ true) (t : ℕ)
+    (some : 0 < stop (ray s) (array (vol s))) (after : start (ray s) (array (vol s)) ≤ t) (until : t ≤ stop (ray s) (array (vol s))) where
+  pub within : (o : Side) → Between (plane (line s o) 0) (plane (line s o) (line s o .n)) (line s o .p) (line s o .q) t (dOf (ray s))
+  within o =
+      let a = line s o in
+      let out : stop (ray s) (array (vol s)) ≤ leave s o 0 (a .n) =
+      le-trans (le-of-eq (stop-array s)) (le-trans (min-le-right (dOf (ray s)) _) (least-le (λ o. leave s o 0 (line s o .n)) o)) in
+      let share : dOf (ray s) ≡ factor (legN (a .p) (a .q)) * rest (ray s) o = rw (leg-is s o) at (d-side (ray s) o) in
+      between (way s o) (record {
+        goes = going s o;
+        whole = ap (λ (f : ℕ). f * rest (ray s) o) (sym (factor-is (way s o) (a .p) (a .q) (going s o))) ∙ sym share;
+        held = held-there s o 0 (a .n) (all-held s (λ o. held (leg (ray s) o) (array (vol s) o)) holding o);
+        some = first-pos _ (rest (ray s) o) (lt-of-lt-of-le some out);
+        after = le-trans (le-most (λ o. enter s o 0 (line s o .n)) o) (le-trans (le-of-eq (sym (start-array s))) after);
+        until = le-trans until out;
+        most = le-trans until (min-le-left (dOf (ray s)) _);
+      })
 
 -- the same place of the ray, told over another whole
 over : (p q t d c : ℕ) → spot p q t d * c ≡ p * (d * c - t * c) + q * (t * c)
-over p q t d c = add-mul (p * (d - t)) (q * t) c ∙ rw (mul-assoc p (d - t) c, mul-assoc q t c, mul-comm (d - t) c, mul-sub c d t, mul-comm c d, mul-comm c t)
+over p q t d c = add-mul (p * (d - t)) (q * t) c ∙ rw (mul-assoc p (d - t) c, mul-assoc q t c, sub-times d t c)
 
 pub same-spot : (p q t d u e : ℕ) → u * d ≡ t * e → spot p q u e * d ≡ spot p q t d * e
 same-spot p q t d u e h = over p q u e d ∙ rw (h, mul-comm e d) (sym (over p q t d e))

@@ -10,6 +10,7 @@ use crate::coordinate::point_at;
 use crate::crossing::Crossing;
 use crate::crossing::across;
 use crate::fraction::quotient;
+use axis::Axis;
 use ray::Grid;
 use ray::Ray;
 
@@ -17,7 +18,7 @@ pub fn place(g: Grid, r: Ray) -> Place
     ensures { λ a. ⌜ a ≡ placeOf tenths g r ⌝ }
     ensures { λ a. ⌜ told a ≡ toldOf tenths g r ⌝ }
 {
-    let c = across(g, r);
+    let c = across(Axis::TENTHS, g, r);
     match c {
         Crossing::Refused(code) => Place::Refused(code),
         Crossing::Miss => Place::Miss,
@@ -49,14 +50,14 @@ pub fn points(g: Grid, r: Ray) -> Points
     ensures { λ a. ⌜ a ≡ pointsOf tenths g r ⌝ }
     ensures { λ a. ⌜ markCode (a .mark) ≡ refusalOf tenths g r ⌝ }
 {
-    let c = across(g, r);
+    let c = across(Axis::TENTHS, g, r);
     match c {
         Crossing::Refused(code) => unplaced(Mark::Refused(code)),
         Crossing::Miss => unplaced(Mark::Miss),
         Crossing::Through(e, l) => {
             let mark = Mark::Hit;
-            let enter = point_at(r, e);
-            let leave = point_at(r, l);
+            let enter = point_at(Axis::TENTHS, r, e);
+            let leave = point_at(Axis::TENTHS, r, l);
             Points { mark, enter, leave }
         }
     }

@@ -1,26 +1,26 @@
 // Between which places on the ray it is in the array, each as a fraction over the deciding axis' difference.
 ghost use mathlib.Core.Path.{_≡_};
-ghost use mathlib.Core.Bool.{true, _&&_};
-ghost use Prim.Native.Nat.{_-_, _≤_};
-ghost use lib.IntN.{pos};
-ghost use Rattle.axis.specs.Leg.{planes};
-ghost use Rattle.axis.specs.Codes.{tenths, inside, axisCode};
+ghost use mathlib.Core.Bool.{_&&_};
+ghost use Rattle.line.specs.Scene.{Sized, Able};
+ghost use Rattle.line.specs.Raised.{Small};
 ghost use Rattle.place.specs.Answers.{refusalOf};
-ghost use Rattle.place.specs.Deciding.{Small, stretchOf, entering, leaving, αmin, αmax, joinedOf, crossingOf};
+ghost use Rattle.place.specs.Deciding.{Short, stretchOf, αmin, αmax, joinedOf, throughOf, crossingOf};
 use crate::fraction::Fraction;
 use crate::fraction::greater_of;
 use crate::fraction::less;
 use crate::fraction::lesser_of;
-use axis::Axis;
+use axis::Limits;
+use line::line::Line;
+use line::scene::Scene;
+use line::scene::scene_of;
 use ray::Grid;
 use ray::Ray;
 
-// What one axis leaves of the ray, from enter / den to leave / den, and whether it holds a ray that stands still on it.
+// What one axis leaves of the ray, from enter to leave, and whether it holds a ray that stands still on it.
 pub struct Stretch {
+    pub enter: Fraction,
+    pub leave: Fraction,
     pub held: bool,
-    pub enter: u64,
-    pub leave: u64,
-    pub den: u64,
 }
 
 // What is found of a ray: a refusal's code, a miss, or αmin and αmax.
@@ -30,67 +30,33 @@ pub enum Crossing {
     Through(Fraction, Fraction),
 }
 
-fn refusal(g: Grid, r: Ray) -> u32
-    ensures { λ c. ⌜ c ≡ refusalOf tenths g r ⌝ }
+fn refusal(m: Limits, g: Grid, r: Ray) -> u32
+    ensures { λ c. ⌜ c ≡ refusalOf m g r ⌝ }
 {
-    let code = ray::check::grid_code(g);
+    let code = ray::check::grid_code(m, g);
     if code == 0 {
-        ray::check::ends_code(r)
+        ray::check::ends_code(m, r)
     } else {
         code
     }
 }
 
-fn above(a: u64, b: u64) -> u64
-    ensures { λ r. ⌜ r ≡ a - b ⌝ }
+// With one tick to a unit, so that enter and leave are parts of the axis' own difference.
+fn stretch_of(a: Line) -> Stretch
+    requires { ⌜ Sized a ⌝ }
+    ensures { λ r. ⌜ r ≡ stretchOf a ⌝ }
+    ensures { λ r. ⌜ Short (r .enter) × Short (r .leave) ⌝ }
 {
-    if b < a { a - b } else { 0 }
-}
-
-// All four told from the lower limit up.
-fn between(lo: u64, hi: u64, p: u64, q: u64) -> Stretch
-    requires { ⌜ lo ≤ hi ⌝ }
-    ensures { λ r. ⌜ r ≡ stretchOf (record { p = pos p; q = pos q }) (record { lo = pos lo; hi = pos hi }) ⌝ }
-{
-    if p < q {
-        return Stretch {
-            held: true,
-            enter: above(lo, p),
-            leave: above(hi, p),
-            den: q - p,
-        };
-    }
-    if q < p {
-        return Stretch {
-            held: true,
-            enter: above(p, hi),
-            leave: above(p, lo),
-            den: p - q,
-        };
-    }
-    let held = lo <= p && p < hi;
+    let reach = a.reach(1);
+    let den = a.factor();
     Stretch {
-        held,
-        enter: 0,
-        leave: 1,
-        den: 1,
+        enter: Fraction {
+            num: reach.from,
+            den,
+        },
+        leave: Fraction { num: reach.to, den },
+        held: reach.held,
     }
-}
-
-fn on_axis(a: Axis, p: i32, q: i32) -> Stretch
-    requires { ⌜ axisCode tenths a ≡ 0 ⌝ }
-    requires { ⌜ inside tenths p ≡ true ⌝ }
-    requires { ⌜ inside tenths q ≡ true ⌝ }
-    ensures { λ r. ⌜ r ≡ stretchOf (record { p = p; q = q }) (record { lo = planes a .at 0; hi = planes a .at (a .n) }) ⌝ }
-{
-    let lo = axis::raised(a.b, Axis::COORD_MAX);
-    let hi = lo + (a.n as u64) * (a.d as u64);
-    between(
-        lo,
-        hi,
-        axis::raised(p, Axis::COORD_MAX),
-        axis::raised(q, Axis::COORD_MAX),
-    )
 }
 
 fn all(x: bool, y: bool, z: bool) -> bool
@@ -100,49 +66,25 @@ fn all(x: bool, y: bool, z: bool) -> bool
 }
 
 fn alpha_min(x: Stretch, y: Stretch, z: Stretch) -> Fraction
-    requires { ⌜ Small (entering x) × (Small (entering y) × Small (entering z)) ⌝ }
+    requires { ⌜ Short (x .enter) × (Short (y .enter) × Short (z .enter)) ⌝ }
     ensures { λ r. ⌜ r ≡ αmin x y z ⌝ }
-    ensures { λ r. ⌜ Small r ⌝ }
+    ensures { λ r. ⌜ Short r ⌝ }
 {
-    let a = Fraction {
-        num: x.enter,
-        den: x.den,
-    };
-    let b = Fraction {
-        num: y.enter,
-        den: y.den,
-    };
-    let c = Fraction {
-        num: z.enter,
-        den: z.den,
-    };
-    greater_of(a, greater_of(b, c))
+    greater_of(x.enter, greater_of(y.enter, z.enter))
 }
 
 fn alpha_max(x: Stretch, y: Stretch, z: Stretch) -> Fraction
-    requires { ⌜ Small (leaving x) × (Small (leaving y) × Small (leaving z)) ⌝ }
+    requires { ⌜ Short (x .leave) × (Short (y .leave) × Short (z .leave)) ⌝ }
     ensures { λ r. ⌜ r ≡ αmax x y z ⌝ }
-    ensures { λ r. ⌜ Small r ⌝ }
+    ensures { λ r. ⌜ Short r ⌝ }
 {
     let whole = Fraction { num: 1, den: 1 };
-    let a = Fraction {
-        num: x.leave,
-        den: x.den,
-    };
-    let b = Fraction {
-        num: y.leave,
-        den: y.den,
-    };
-    let c = Fraction {
-        num: z.leave,
-        den: z.den,
-    };
-    lesser_of(whole, lesser_of(a, lesser_of(b, c)))
+    lesser_of(whole, lesser_of(x.leave, lesser_of(y.leave, z.leave)))
 }
 
 fn joined(x: Stretch, y: Stretch, z: Stretch) -> Crossing
-    requires { ⌜ Small (entering x) × (Small (entering y) × Small (entering z)) ⌝ }
-    requires { ⌜ Small (leaving x) × (Small (leaving y) × Small (leaving z)) ⌝ }
+    requires { ⌜ Short (x .enter) × (Short (y .enter) × Short (z .enter)) ⌝ }
+    requires { ⌜ Short (x .leave) × (Short (y .leave) × Short (z .leave)) ⌝ }
     ensures { λ r. ⌜ r ≡ joinedOf x y z ⌝ }
 {
     let enter = alpha_min(x, y, z);
@@ -155,20 +97,23 @@ fn joined(x: Stretch, y: Stretch, z: Stretch) -> Crossing
     Crossing::Miss
 }
 
-pub fn across(g: Grid, r: Ray) -> Crossing
-    ensures { λ c. ⌜ c ≡ crossingOf tenths g r ⌝ }
+fn through(s: Scene) -> Crossing
+    requires { ⌜ Able s ⌝ }
+    ensures { λ r. ⌜ r ≡ throughOf s ⌝ }
 {
-    let code = refusal(g, r);
+    let x = stretch_of(s.x);
+    let y = stretch_of(s.y);
+    let z = stretch_of(s.z);
+    joined(x, y, z)
+}
+
+pub fn across(m: Limits, g: Grid, r: Ray) -> Crossing
+    requires { ⌜ Small m ⌝ }
+    ensures { λ c. ⌜ c ≡ crossingOf m g r ⌝ }
+{
+    let code = refusal(m, g, r);
     if code != 0 {
         return Crossing::Refused(code);
     }
-    let p = r.p;
-    let q = r.q;
-    let gx = g.x;
-    let gy = g.y;
-    let gz = g.z;
-    let x = on_axis(gx, p.x, q.x);
-    let y = on_axis(gy, p.y, q.y);
-    let z = on_axis(gz, p.z, q.z);
-    joined(x, y, z)
+    through(scene_of(m, g, r))
 }

@@ -1,9 +1,8 @@
 // A fraction of two whole numbers: which of two is the greater, and the float nearest to it.
 ghost use mathlib.Core.Path.{_≡_};
 ghost use mathlib.Core.Bool.{false};
-ghost use Prim.Native.Nat.{_^_, _≤_, _<_};
 ghost use lib.Ieee.{binary64, round};
-ghost use Rattle.place.specs.Deciding.{Small, below, greater, lesser};
+ghost use Rattle.place.specs.Deciding.{Short, OnRay, below, greater, lesser};
 
 pub struct Fraction {
     pub num: u64,
@@ -12,35 +11,34 @@ pub struct Fraction {
 
 // Whether a is below b, by the products: nothing is rounded.
 pub fn less(a: Fraction, b: Fraction) -> bool
-    requires { ⌜ Small a ⌝ }
-    requires { ⌜ Small b ⌝ }
+    requires { ⌜ Short a ⌝ }
+    requires { ⌜ Short b ⌝ }
     ensures { λ r. ⌜ r ≡ below a b ⌝ }
 {
     a.num * b.den < b.num * a.den
 }
 
 pub fn greater_of(a: Fraction, b: Fraction) -> Fraction
-    requires { ⌜ Small a ⌝ }
-    requires { ⌜ Small b ⌝ }
+    requires { ⌜ Short a ⌝ }
+    requires { ⌜ Short b ⌝ }
     ensures { λ r. ⌜ r ≡ greater a b ⌝ }
-    ensures { λ r. ⌜ Small r ⌝ }
+    ensures { λ r. ⌜ Short r ⌝ }
 {
     if less(a, b) { b } else { a }
 }
 
 pub fn lesser_of(a: Fraction, b: Fraction) -> Fraction
-    requires { ⌜ Small a ⌝ }
-    requires { ⌜ Small b ⌝ }
+    requires { ⌜ Short a ⌝ }
+    requires { ⌜ Short b ⌝ }
     ensures { λ r. ⌜ r ≡ lesser a b ⌝ }
-    ensures { λ r. ⌜ Small r ⌝ }
+    ensures { λ r. ⌜ Short r ⌝ }
 {
     if less(b, a) { b } else { a }
 }
 
 // Both numbers are converted with nothing lost, so the one division rounds once.
 pub fn quotient(f: Fraction) -> f64
-    requires { ⌜ (f .num ≤ 2 ^ 53) × (f .den ≤ 2 ^ 53) ⌝ }
-    requires { ⌜ 0 < f .den ⌝ }
+    requires { ⌜ OnRay f ⌝ }
     ensures { λ r. ⌜ r ≡ round binary64 false (f .num) (f .den) ⌝ }
 {
     (f.num as f64) / (f.den as f64)

@@ -1,15 +1,15 @@
 -- `call::place` meets its contract. Assumes nothing.
-use native.Mathlib.Omega.{arith}
 use mathlib.Core.Path.{_≡_, sym, ap, _∙_}
 use Rattle.axis.specs.Codes.{tenths}
 use Rattle.ray.specs.declared.Grid.{Grid}
 use Rattle.ray.specs.declared.Ray.{Ray}
+use Rattle.line.proofs.Tenths.{tenths-small}
 use Rattle.place.specs.declared.fraction.Fraction.{Fraction}
 use Rattle.place.specs.declared.crossing.Crossing.{Crossing}
 use Rattle.place.specs.declared.crossing.Crossing.the-variants.{Miss, Through}
 use Rattle.place.specs.Answers.{placeOf, told, toldOf}
 use Rattle.place.proofs.Found.{Hit, hit}
-use Rattle.place.proofs.Placed.{placed, place-is}
+use Rattle.place.proofs.Placed.{placed, enter-on, leave-on, place-is}
 use Rattle.place.proofs.Told.{told-is}
 use borrow.Author.Needs.{needs}
 use Rattle.place.proofs.call.place.Statement.{statement}
@@ -25,11 +25,11 @@ module _ (c : tie.After-across) where
 
   answer : (k : Crossing) → c .across .result ≡ k → (placed k ≡ placeOf tenths g r) × (told (placed k) ≡ toldOf tenths g r)
   answer k h =
-      let e = ap placed (sym h ∙ c .across .ensures) ∙ place-is tenths g r (omega arith) in
+      let e = ap placed (sym h ∙ c .across .ensures) ∙ place-is tenths g r tenths-small in
       (e, ap told e ∙ told-is tenths g r)
 
-  hits : (e l : Fraction) → c .across .result ≡ Through e l → Hit tenths g r (omega arith) e l
-  hits e l h = hit tenths g r (omega arith) e l (sym (c .across .ensures) ∙ h)
+  hits : (e l : Fraction) → c .across .result ≡ Through e l → Hit tenths g r e l
+  hits e l h = hit tenths g r tenths-small e l (sym (c .across .ensures) ∙ h)
 
 across-requires : tie.Need-across-requires
 across-requires c κs = search needs
@@ -44,10 +44,10 @@ enum-known-c-2 : tie.Need-enum-known-c-2
 enum-known-c-2 c = search needs
 
 quotient-requires : tie.Need-quotient-requires
-quotient-requires c κs = let f = hits (c .before .before .before) _ _ (c .before .c2 .given .1) .enters in ((omega (arith, f .small .0), omega (arith, f .small .1)), f .some)
+quotient-requires c κs = enter-on (hits (c .before .before .before) _ _ (c .before .c2 .given .1))
 
 quotient-requires-2 : tie.Need-quotient-requires-2
-quotient-requires-2 c κs = let f = hits (c .before .before .before .before) _ _ (c .before .before .c2 .given .1) .leaves in ((omega (arith, f .small .0), omega (arith, f .small .1)), f .some)
+quotient-requires-2 c κs = leave-on (hits (c .before .before .before .before) _ _ (c .before .before .c2 .given .1))
 
 returns : tie.Need-returns
 returns c = answer (c .before .before .before) _ (c .before .c .given .1)

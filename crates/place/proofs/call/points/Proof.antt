@@ -1,18 +1,16 @@
 -- `call::points` meets its contract. Assumes nothing.
-use native.Mathlib.Omega.{arith}
 use mathlib.Core.Path.{_≡_, refl, sym, ap, _∙_}
-use mathlib.Core.Bool.{true}
-use Rattle.axis.specs.Codes.{tenths, inside}
+use Rattle.axis.specs.Codes.{tenths}
 use Rattle.ray.specs.declared.Grid.{Grid}
 use Rattle.ray.specs.declared.Ray.{Ray}
-use Rattle.ray.specs.Length.{Side, X, Y, Z, leg}
+use Rattle.line.proofs.Tenths.{tenths-small}
 use Rattle.place.specs.declared.Points.{Points}
 use Rattle.place.specs.declared.fraction.Fraction.{Fraction}
 use Rattle.place.specs.declared.crossing.Crossing.{Crossing}
 use Rattle.place.specs.declared.crossing.Crossing.the-variants.{Miss, Through}
 use Rattle.place.specs.Answers.{refusalOf, markCode, pointsOf}
 use Rattle.place.proofs.Found.{Hit, hit}
-use Rattle.place.proofs.Placed.{enter-low, leave-low}
+use Rattle.place.proofs.Placed.{enter-on, leave-on}
 use Rattle.place.proofs.Pointed.{pointed, points-is}
 use Rattle.place.proofs.Told.{mark-is}
 use borrow.Author.Needs.{needs}
@@ -29,15 +27,11 @@ module _ (c : tie.After-across) where
 
   answer : (k : Crossing) (a : Points) → c .across .result ≡ k → a ≡ pointed r k → (a ≡ pointsOf tenths g r) × (markCode (a .mark) ≡ refusalOf tenths g r)
   answer k a h p =
-      let e = p ∙ ap (pointed r) (sym h ∙ c .across .ensures) ∙ points-is tenths g r (omega arith) in
+      let e = p ∙ ap (pointed r) (sym h ∙ c .across .ensures) ∙ points-is tenths g r tenths-small in
       (e, ap (λ (x : Points). markCode (x .mark)) e ∙ mark-is tenths g r)
 
-  module _ (e l : Fraction) (h : c .across .result ≡ Through e l) where
-    hits : Hit tenths g r (omega arith) e l
-    hits = hit tenths g r (omega arith) e l (sym (c .across .ensures) ∙ h)
-
-    inner : (s : Side) → (inside tenths (leg r s .p) ≡ true) × (inside tenths (leg r s .q) ≡ true)
-    inner s = (hits .ok .from s, hits .ok .to s)
+  hits : (e l : Fraction) → c .across .result ≡ Through e l → Hit tenths g r e l
+  hits e l h = hit tenths g r tenths-small e l (sym (c .across .ensures) ∙ h)
 
 across-requires : tie.Need-across-requires
 across-requires c κs = search needs
@@ -58,18 +52,10 @@ enum-known-c-2 : tie.Need-enum-known-c-2
 enum-known-c-2 c = search needs
 
 point-at-requires : tie.Need-point-at-requires
-point-at-requires c κs =
-    let k = c .before .before .before in
-    let i = inner k _ _ (c .before .c2 .given .1) in
-    let H = hits k _ _ (c .before .c2 .given .1) in
-    (i X, (i Y, (i Z, (H .enters .small, (enter-low tenths (g k) (r k) (omega arith) _ _ H, H .enters .some)))))
+point-at-requires c κs = let H = hits (c .before .before .before) _ _ (c .before .c2 .given .1) in (tenths-small, (H .ok .ends, enter-on H))
 
 point-at-requires-2 : tie.Need-point-at-requires-2
-point-at-requires-2 c κs =
-    let k = c .before .before .before .before in
-    let i = inner k _ _ (c .before .before .c2 .given .1) in
-    let H = hits k _ _ (c .before .before .c2 .given .1) in
-    (i X, (i Y, (i Z, (H .leaves .small, (leave-low tenths (g k) (r k) (omega arith) _ _ H, H .leaves .some)))))
+point-at-requires-2 c κs = let H = hits (c .before .before .before .before) _ _ (c .before .before .c2 .given .1) in (tenths-small, (H .ok .ends, leave-on H))
 
 returns : tie.Need-returns
 returns c = answer (c .before .before .before .before) _ _ (c .before .before .c .given .1) (c .unplaced .ensures)
