@@ -44,6 +44,7 @@ module _ {m : Limits} {g : Grid} {r : Ray} {l : Lists} {ans : List ℕ} where
   pub other-length : codeOf m g r (lent l) ≡ 0 → (length ans ≡ 6 → ⊥) → Traced m g r l ans 17 (l .voxels) (l .parts) ans
   other-length e h = refuses m g r l ans 17 (sym (in-turn m g r l ans ∙ then-on _ _ e ∙ rw (ne-eqb (length ans) 6 h) refl)) (λ no. omega arith)
 
+  -- a trace, and the list filled where its code is 0
   pub traced : {t : Trace} {vs ps ans′ : List ℕ} → Answers m g r l t vs ps → length ans ≡ 6 → ans′ ≡ after (t .code) (sixOf t) ans → Traced m g r l ans (t .code) vs ps ans′
   unfolding voxelsAfter partsAfter
   traced a h e = record {
