@@ -15,6 +15,20 @@ held-is : (x y z : Stretch) (e l : Fraction) (u : Bool) → e ≡ αmin x y z �
 unfolding joinedOf
 held-is x y z e l u p q h b = rw (p, q, h, rw (p, q) at b)
 
+module _ (c : tie.After-less) where
+  abbrev e : Fraction
+  e = c .before .before .before .before .alpha-min .result
+
+  abbrev l : Fraction
+  l = c .before .before .before .alpha-max .result
+
+  found : (u : Bool) → below e l ≡ u → let a = c .before .before .before .before .before .args in cond u (Through e l) Miss ≡ joinedOf (a .x) (a .y) (a .z)
+  found u b =
+      let a = c .before .before .before .before .before .args in
+      let first = c .before .before .before .before .alpha-min .ensures .0 in
+      let last = c .before .before .before .alpha-max .ensures .0 in
+      held-is (a .x) (a .y) (a .z) e l u first last (sym (c .before .before .all .ensures) ∙ c .before .if1 .taken) b
+
 alpha-min-requires : tie.Need-alpha-min-requires
 alpha-min-requires c κs = search needs
 
@@ -28,10 +42,10 @@ less-requires : tie.Need-less-requires
 less-requires c κs = search needs
 
 returns : tie.Need-returns
-returns c = let a = c .before .before .before .before .before .before .args in held-is (a .x) (a .y) (a .z) _ _ true (c .before .before .before .before .before .alpha-min .ensures .0) (c .before .before .before .before .alpha-max .ensures .0) (sym (c .before .before .before .all .ensures) ∙ c .before .before .if1 .taken) (sym (c .before .less .ensures) ∙ c .if2 .taken)
+returns c = found (c .before) true (sym (c .before .less .ensures) ∙ c .if2 .taken)
 
 returns-2 : tie.Need-returns-2
-returns-2 c = let a = c .before .before .before .before .before .before .args in held-is (a .x) (a .y) (a .z) _ _ false (c .before .before .before .before .before .alpha-min .ensures .0) (c .before .before .before .before .alpha-max .ensures .0) (sym (c .before .before .before .all .ensures) ∙ c .before .before .if1 .taken) (sym (c .before .less .ensures) ∙ c .if2 .left)
+returns-2 c = found (c .before) false (sym (c .before .less .ensures) ∙ c .if2 .left)
 
 returns-3 : tie.Need-returns-3
 unfolding joinedOf
