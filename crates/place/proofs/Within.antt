@@ -26,7 +26,7 @@ spot p q t d = p * (d - t) + q * t
 split : (p t d : ℕ) → t ≤ d → p * (d - t) + p * t ≡ p * d
 split p t d h = omega (arith, mul-sub p d t, mul-le-mul-left p h)
 
-spot-most : (p q t d k : ℕ) → p ≤ k → q ≤ k → t ≤ d → spot p q t d ≤ k * d
+pub spot-most : (p q t d k : ℕ) → p ≤ k → q ≤ k → t ≤ d → spot p q t d ≤ k * d
 spot-most p q t d k hp hq h = omega (arith, mul-le-mul-right (d - t) hp, mul-le-mul-right t hq, split k t d h)
 
 pub spot-short : (p q : ℕ) (f : Fraction) → p ≤ 2 ^ 20 → q ≤ 2 ^ 20 → OnRay f → spot p q (f .num) (f .den) ≤ 2 ^ 40
