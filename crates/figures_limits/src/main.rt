@@ -23,45 +23,44 @@ fn axis_of(n: u32, d: u32, b: i32) -> u32 {
     }
 }
 
+fn grid_of(x: Axis, y: Axis, z: Axis) -> u32 {
+    grid_code(Axis::TENTHS, Grid { x, y, z })
+}
+
 // The code of a grid whose last axis alone is out of the ordinary.
-fn grid_of(n: u32, d: u32, b: i32) -> u32 {
+fn last_of(n: u32, d: u32, b: i32) -> u32 {
     let plain = Axis { n: 1, d: 1, b: 0 };
-    let z = Axis { n, d, b };
-    grid_code(Grid {
-        x: plain,
-        y: plain,
-        z,
-    })
+    grid_of(plain, plain, Axis { n, d, b })
 }
 
 // The code of the ends (0, 0, 0) and (0, 0, z).
 fn ends_to(z: i32) -> u32 {
     let p = End { x: 0, y: 0, z: 0 };
     let q = End { x: 0, y: 0, z };
-    ends_code(Ray { p, q })
+    ends_code(Axis::TENTHS, Ray { p, q })
 }
 
 fn counts() {
     say(b"n 0: ", axis_of(0, 1, 0));
     say(b"n 1: ", axis_of(1, 1, 0));
-    say(b"n 512: ", grid_of(512, 1, 0));
-    say(b"n 513: ", grid_of(513, 1, 0));
-    say(b"n 4294967295: ", grid_of(4294967295, 1, 0));
+    say(b"n 512: ", last_of(512, 1, 0));
+    say(b"n 513: ", last_of(513, 1, 0));
+    say(b"n 4294967295: ", last_of(4294967295, 1, 0));
     say(b"d 0: ", axis_of(1, 0, 0));
-    say(b"d 4096: ", grid_of(1, 4096, 0));
-    say(b"d 4097: ", grid_of(1, 4097, 0));
-    say(b"d 4294967295: ", grid_of(1, 4294967295, 0));
+    say(b"d 4096: ", last_of(1, 4096, 0));
+    say(b"d 4097: ", last_of(1, 4097, 0));
+    say(b"d 4294967295: ", last_of(1, 4294967295, 0));
 }
 
 fn planes() {
-    say(b"b -16384: ", grid_of(1, 1, -16384));
-    say(b"b -16385: ", grid_of(1, 1, -16385));
-    say(b"b 16383, far plane 16384: ", grid_of(1, 1, 16383));
-    say(b"b 16384, far plane 16385: ", grid_of(1, 1, 16384));
-    say(b"b -16384, far plane 16384: ", grid_of(8, 4096, -16384));
+    say(b"b -16384: ", last_of(1, 1, -16384));
+    say(b"b -16385: ", last_of(1, 1, -16385));
+    say(b"b 16383, far plane 16384: ", last_of(1, 1, 16383));
+    say(b"b 16384, far plane 16385: ", last_of(1, 1, 16384));
+    say(b"b -16384, far plane 16384: ", last_of(8, 4096, -16384));
     say(b"b -16384, far plane 20480: ", axis_of(9, 4096, -16384));
-    say(b"b -2147483648: ", grid_of(512, 4096, -2147483648));
-    say(b"b 2147483647: ", grid_of(512, 4096, 2147483647));
+    say(b"b -2147483648: ", last_of(512, 4096, -2147483648));
+    say(b"b 2147483647: ", last_of(512, 4096, 2147483647));
 }
 
 // A lower code of a later axis comes first.
@@ -73,22 +72,8 @@ fn order() {
         d: 1,
         b: 16384,
     };
-    say(
-        b"planes, d, n: ",
-        grid_code(Grid {
-            x: b_out,
-            y: d_out,
-            z: n_out,
-        }),
-    );
-    say(
-        b"planes, d, d: ",
-        grid_code(Grid {
-            x: b_out,
-            y: d_out,
-            z: d_out,
-        }),
-    );
+    say(b"planes, d, n: ", grid_of(b_out, d_out, n_out));
+    say(b"planes, d, d: ", grid_of(b_out, d_out, d_out));
     say(b"all three out: ", axis_of(0, 0, 16385));
     say(b"d and planes out: ", axis_of(1, 4097, 16385));
 }
@@ -108,7 +93,7 @@ fn ends() {
     };
     say(
         b"ends equal and outside: ",
-        ends_code(Ray { p: far, q: far }),
+        ends_code(Axis::TENTHS, Ray { p: far, q: far }),
     );
 }
 

@@ -7,12 +7,15 @@ use lib.IntN.{ℤ}
 use lib.Dec.{eqb}
 use lib.Ieee.{Float}
 use lib.ListN.{length}
-use Rattle.axis.specs.Codes.{tenths, Row, row, first}
+use Rattle.axis.specs.declared.Limits.{Limits}
+use Rattle.axis.specs.Codes.{Row, row, first}
 use Rattle.ray.specs.declared.Grid.{Grid}
 use Rattle.ray.specs.declared.Ray.{Ray}
-use Rattle.ray.specs.Length.{volume, dOf, squaredOf, spanOf, partOf, listOf, sumOf, crossedOf}
+use Rattle.ray.specs.declared.Lent.{Lent}
+use Rattle.ray.specs.Length.{volume, partOf, listOf}
 use Rattle.ray.specs.Codes.{gridRows, endRows, traceRows}
-use Rattle.tracing.specs.Answer.{written}
+use Rattle.tracing.specs.declared.Trace.{Trace}
+use Rattle.tracing.specs.Answer.{Lists, lent, accepted, written}
 use Rattle.place.specs.Answers.{placeOf, told}
 
 -- RULES 9: a grid and a ray from numbers passed by value
@@ -31,36 +34,29 @@ abbrev pub lengthRow : (stated answer : ℕ) → List Row
 lengthRow stated answer = row 17 (not (eqb answer stated)) ∷ []
 
 -- RULES 9: 17 comes behind all others
-abbrev pub traceCode : Grid → Ray → (densities voxels parts answer : ℕ) → ℕ
-traceCode g r densities voxels parts answer = first (traceRows tenths g r densities voxels parts 0 ++ lengthRow 6 answer)
+abbrev pub traceCode : Limits → Grid → Ray → Lent → (answer : ℕ) → ℕ
+traceCode m g r l answer = first (traceRows m g r l ++ lengthRow 6 answer)
 
-abbrev pub placeCode : Grid → Ray → (answer : ℕ) → ℕ
-placeCode g r answer = first (gridRows tenths g ++ endRows tenths r ++ lengthRow 2 answer)
+abbrev pub placeCode : Limits → Grid → Ray → (answer : ℕ) → ℕ
+placeCode m g r answer = first (gridRows m g ++ endRows m r ++ lengthRow 2 answer)
 
 -- a lent list afterwards: the new one where the code is 0, else as it was
 abbrev pub after : {A : Type 0} → (code : ℕ) → (new old : List A) → List A
 after code new old = cond (eqb code 0) new old
 
 -- RULES 9: the numbers of RULES 5 from entries on
-abbrev pub sixOf : Grid → Ray → List ℕ → List ℕ
-sixOf g r densities =
-    length (listOf (volume g) r)
-    ∷ crossedOf (volume g) r
-    ∷ spanOf (volume g) r
-    ∷ dOf r
-    ∷ squaredOf r
-    ∷ sumOf (volume g) r densities
-    ∷ []
+abbrev pub sixOf : Trace → List ℕ
+sixOf t = t .entries ∷ t .crossed ∷ t .span ∷ t .denominator ∷ t .squared ∷ t .sum ∷ []
 
 -- RULES 9: what an entry point returns and leaves in the lists lent, from what they held. It fills the answer list where the code
 -- is 0, and touches none where it is not.
-pub record Traced (g : Grid) (r : Ray) (densities voxels parts answer : List ℕ) (code : ℕ) (voxels′ parts′ answer′ : List ℕ) : Type 0 where
-  pub code-is : code ≡ traceCode g r (length densities) (length voxels) (length parts) (length answer)
-  pub voxels-now : voxels′ ≡ after code (written 0 (listOf (volume g) r) voxels) voxels
-  pub parts-now : parts′ ≡ after code (written 0 (map (partOf (volume g) r) (listOf (volume g) r)) parts) parts
-  pub answer-now : answer′ ≡ after code (sixOf g r densities) answer
+pub record Traced (m : Limits) (g : Grid) (r : Ray) (l : Lists) (answer : List ℕ) (code : ℕ) (voxels parts answer′ : List ℕ) : Type 0 where
+  pub code-is : code ≡ traceCode m g r (lent l) (length answer)
+  pub voxels-now : voxels ≡ after code (written (l .filled) (listOf (volume g) r) (l .voxels)) (l .voxels)
+  pub parts-now : parts ≡ after code (written (l .filled) (map (partOf (volume g) r) (listOf (volume g) r)) (l .parts)) (l .parts)
+  pub answer-now : answer′ ≡ after code (sixOf (accepted (volume g) r (l .densities))) answer
 
 -- RULES 9, the two floats as the place call tells them in numbers: zeros on a miss
-pub record Placed (g : Grid) (r : Ray) (answer : List Float) (code : ℕ) (answer′ : List Float) : Type 0 where
-  pub code-is : code ≡ placeCode g r (length answer)
-  pub answer-now : answer′ ≡ after code (told (placeOf tenths g r) .enter ∷ told (placeOf tenths g r) .leave ∷ []) answer
+pub record Placed (m : Limits) (g : Grid) (r : Ray) (answer : List Float) (code : ℕ) (answer′ : List Float) : Type 0 where
+  pub code-is : code ≡ placeCode m g r (length answer)
+  pub answer-now : answer′ ≡ after code (told (placeOf m g r) .enter ∷ told (placeOf m g r) .leave ∷ []) answer

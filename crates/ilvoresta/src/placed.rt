@@ -3,9 +3,11 @@ ghost use mathlib.Core.Path.{_≡_};
 ghost use mathlib.Core.List.{[], _∷_};
 ghost use lib.ListN.{length};
 ghost use Rattle.axis.specs.Codes.{first};
+ghost use Rattle.line.specs.Raised.{Small};
 ghost use Rattle.ilvoresta.specs.Entry.{lengthRow, after, Placed};
+use axis::Limits;
 use place::Place;
-use place::call::place;
+use place::device::place;
 use ray::Grid;
 use ray::Ray;
 
@@ -22,10 +24,11 @@ fn put_two(enter: f64, leave: f64, answer: &mut [f64]) -> u32
     0
 }
 
-pub fn place_into(g: Grid, r: Ray, answer: &mut [f64]) -> u32
-    ensures { λ c. ⌜ Placed g r (now (answer .entry)) c (now (answer .exit)) ⌝ }
+pub fn place_into(m: Limits, g: Grid, r: Ray, answer: &mut [f64]) -> u32
+    requires { ⌜ Small m ⌝ }
+    ensures { λ c. ⌜ Placed m g r (now (answer .entry)) c (now (answer .exit)) ⌝ }
 {
-    let a = place(g, r);
+    let a = place(m, g, r);
     match a {
         Place::Refused(code) => code,
         Place::Miss => put_two(0.0, 0.0, answer),

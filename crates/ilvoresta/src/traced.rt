@@ -1,17 +1,20 @@
 // The trace with its answer in a list of six.
 ghost use mathlib.Core.Path.{_≡_};
-ghost use mathlib.Core.List.{[], _∷_};
 ghost use lib.ListN.{length};
-ghost use Rattle.ilvoresta.specs.Entry.{Traced};
+ghost use Rattle.tracing.specs.Answer.{lists};
+ghost use Rattle.tracing.specs.Inside.{Suited};
+ghost use Rattle.ilvoresta.specs.Entry.{sixOf, Traced};
+use axis::Limits;
 use ray::Grid;
+use ray::Lent;
 use ray::Ray;
 use tracing::Trace;
-use tracing::calls::trace;
-use tracing::code::code_of;
+use tracing::device::code_of;
+use tracing::device::trace;
 
 pub fn put_six(t: Trace, answer: &mut [u64])
     requires { ⌜ length (now answer) ≡ 6 ⌝ }
-    ensures { λ _. ⌜ now (answer .exit) ≡ (t .entries ∷ t .crossed ∷ t .span ∷ t .denominator ∷ t .squared ∷ t .sum ∷ []) ⌝ }
+    ensures { λ _. ⌜ now (answer .exit) ≡ sixOf t ⌝ }
 {
     answer[0] = t.entries as u64;
     answer[1] = t.crossed;
@@ -23,6 +26,7 @@ pub fn put_six(t: Trace, answer: &mut [u64])
 
 // Where the answer list has another length nothing may be written, so the code is worked out without a trace.
 pub fn trace_into(
+    m: Limits,
     g: Grid,
     r: Ray,
     densities: &[u16],
@@ -30,16 +34,23 @@ pub fn trace_into(
     parts: &mut [u64],
     answer: &mut [u64],
 ) -> u32
-    ensures { λ c. ⌜ Traced g r (now (densities .entry)) (now (voxels .entry)) (now (parts .entry)) (now (answer .entry)) c (now (voxels .exit)) (now (parts .exit)) (now (answer .exit)) ⌝ }
+    requires { ⌜ Suited m ⌝ }
+    ensures { λ c. ⌜ Traced m g r (lists (now (densities .entry)) (now (voxels .entry)) (now (parts .entry)) 0) (now (answer .entry)) c (now (voxels .exit)) (now (parts .exit)) (now (answer .exit)) ⌝ }
 {
     if answer.len() != 6 {
-        let code = code_of(g, r, densities.len(), voxels.len(), parts.len());
+        let lent = Lent {
+            densities: densities.len(),
+            voxels: voxels.len(),
+            parts: parts.len(),
+            filled: 0,
+        };
+        let code = code_of(m, g, r, lent);
         if code != 0 {
             return code;
         }
         return 17;
     }
-    let t = trace(g, r, densities, voxels, parts);
+    let t = trace(m, g, r, densities, voxels, parts);
     if t.code == 0 {
         put_six(t, answer);
     }

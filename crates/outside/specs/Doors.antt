@@ -7,15 +7,15 @@ use mathlib.Core.List.{List, [], _∷_}
 use lib.Dec.{eqb}
 use lib.Ieee.{Float}
 use lib.ListN.{length}
-use Rattle.axis.specs.Codes.{tenths}
+use Rattle.axis.specs.declared.Limits.{Limits}
 use Rattle.ray.specs.declared.Grid.{Grid}
 use Rattle.ray.specs.declared.Ray.{Ray}
-use Rattle.ilvoresta.proofs.Answered.{sixIn}
-use Rattle.tracing.specs.Answer.{answerOf, voxelsAfter, partsAfter}
+use Rattle.tracing.specs.Answer.{Lists, answerOf, voxelsAfter, partsAfter}
 use Rattle.place.specs.declared.Mark.{Mark}
 use Rattle.place.specs.declared.Mark.the-variants.{Refused, Miss, Hit}
 use Rattle.place.specs.declared.Points.{Points}
 use Rattle.place.specs.Answers.{markCode, pointsOf}
+use Rattle.ilvoresta.specs.Entry.{sixOf}
 
 -- a lent list afterwards: the answer, or, where its length is another, what it held
 abbrev pub put : {A : Type 0} → (new old : List A) → List A
@@ -32,13 +32,13 @@ abbrev pub floatsOf : Points → List Float
 floatsOf a = a .enter .x ∷ a .enter .y ∷ a .enter .z ∷ a .leave .x ∷ a .leave .y ∷ a .leave .z ∷ []
 
 -- what a door returns and leaves in the lists lent, from what they held
-pub record Appended (g : Grid) (r : Ray) (densities voxels parts answer : List ℕ) (filled code : ℕ) (voxels′ parts′ answer′ : List ℕ) : Type 0 where
-  pub code-is : code ≡ answerOf g r densities (length voxels) (length parts) filled .code
-  pub voxels-now : voxels′ ≡ voxelsAfter g r (length densities) voxels parts filled
-  pub parts-now : parts′ ≡ partsAfter g r (length densities) voxels parts filled
-  pub answer-now : answer′ ≡ put (sixIn (answerOf g r densities (length voxels) (length parts) filled)) answer
+pub record Appended (m : Limits) (g : Grid) (r : Ray) (l : Lists) (answer : List ℕ) (code : ℕ) (voxels parts answer′ : List ℕ) : Type 0 where
+  pub code-is : code ≡ answerOf m g r l .code
+  pub voxels-now : voxels ≡ voxelsAfter m g r l
+  pub parts-now : parts ≡ partsAfter m g r l
+  pub answer-now : answer′ ≡ put (sixOf (answerOf m g r l)) answer
 
-pub record Pointed (g : Grid) (r : Ray) (mark : List ℕ) (floats : List Float) (code : ℕ) (mark′ : List ℕ) (floats′ : List Float) : Type 0 where
-  pub code-is : code ≡ markCode (pointsOf tenths g r .mark)
-  pub mark-now : mark′ ≡ put (markOf (pointsOf tenths g r .mark) ∷ []) mark
-  pub floats-now : floats′ ≡ put (floatsOf (pointsOf tenths g r)) floats
+pub record Pointed (m : Limits) (g : Grid) (r : Ray) (mark : List ℕ) (floats : List Float) (code : ℕ) (mark′ : List ℕ) (floats′ : List Float) : Type 0 where
+  pub code-is : code ≡ markCode (pointsOf m g r .mark)
+  pub mark-now : mark′ ≡ put (markOf (pointsOf m g r .mark) ∷ []) mark
+  pub floats-now : floats′ ≡ put (floatsOf (pointsOf m g r)) floats

@@ -1,5 +1,7 @@
 // The calls that C has no entry for, as C functions, for the comparisons alone (compare/driver.c): doors that a caller's
 // header does not name.
+ghost use Rattle.axis.specs.Codes.{tenths};
+ghost use Rattle.tracing.specs.Answer.{lists};
 ghost use Rattle.ilvoresta.specs.Entry.{gridOf, rayOf};
 ghost use Rattle.outside.specs.Doors.{Appended, Pointed};
 
@@ -39,7 +41,8 @@ pub extern "C" fn outside_append(
     filled: usize,
     answer: &mut [u64],
 ) -> u32
-    ensures { λ c. ⌜ Appended (gridOf nx ny nz dx dy dz bx by bz) (rayOf px py pz qx qy qz) (now (densities .entry)) (now (voxels .entry)) (now (parts .entry)) (now (answer .entry)) filled c (now (voxels .exit)) (now (parts .exit)) (now (answer .exit)) ⌝ }
+    ensures { λ c. ⌜ Appended tenths (gridOf nx ny nz dx dy dz bx by bz) (rayOf px py pz qx qy qz)
+        (lists (now (densities .entry)) (now (voxels .entry)) (now (parts .entry)) filled) (now (answer .entry)) c (now (voxels .exit)) (now (parts .exit)) (now (answer .exit)) ⌝ }
 {
     let g = grid_of(nx, ny, nz, dx, dy, dz, bx, by, bz);
     let r = ray_of(px, py, pz, qx, qy, qz);
@@ -69,7 +72,7 @@ pub extern "C" fn outside_points(
     mark: &mut [u32],
     floats: &mut [f64],
 ) -> u32
-    ensures { λ c. ⌜ Pointed (gridOf nx ny nz dx dy dz bx by bz) (rayOf px py pz qx qy qz) (now (mark .entry)) (now (floats .entry)) c (now (mark .exit)) (now (floats .exit)) ⌝ }
+    ensures { λ c. ⌜ Pointed tenths (gridOf nx ny nz dx dy dz bx by bz) (rayOf px py pz qx qy qz) (now (mark .entry)) (now (floats .entry)) c (now (mark .exit)) (now (floats .exit)) ⌝ }
 {
     let g = grid_of(nx, ny, nz, dx, dy, dz, bx, by, bz);
     let r = ray_of(px, py, pz, qx, qy, qz);

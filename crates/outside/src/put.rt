@@ -1,8 +1,8 @@
 // Answers put into lists; a list of another length is left as it was.
 ghost use mathlib.Core.Path.{_≡_};
 ghost use mathlib.Core.List.{[], _∷_};
-ghost use Rattle.ilvoresta.proofs.Answered.{sixIn};
 ghost use Rattle.place.specs.Answers.{markCode};
+ghost use Rattle.ilvoresta.specs.Entry.{sixOf};
 ghost use Rattle.outside.specs.Doors.{put, markOf, floatsOf};
 use ilvoresta::traced::put_six;
 use place::Mark;
@@ -10,7 +10,7 @@ use place::Points;
 use tracing::Trace;
 
 pub fn put_answer(t: Trace, answer: &mut [u64])
-    ensures { λ _. ⌜ now (answer .exit) ≡ put (sixIn t) (now (answer .entry)) ⌝ }
+    ensures { λ _. ⌜ now (answer .exit) ≡ put (sixOf t) (now (answer .entry)) ⌝ }
 {
     if answer.len() == 6 {
         put_six(t, answer);

@@ -1,8 +1,8 @@
 -- The fraction that decides αmin is αmin: over the axis' own difference it is what start is over D, and so for αmax. Assumes nothing.
-use Prim.Native.Nat.{ℕ, _*_, _^_, _≤_, _<_, min, max, zero-le}
+use Prim.Native.Nat.{ℕ, _*_, _≤_, _<_, min, max, zero-le}
 use mathlib.Core.Path.{_≡_, refl, sym, ap, _∙_}
 use mathlib.Core.Bool.{Bool, true, false, cond}
-use native.Mathlib.Nat.{le-of-mul-le-mul-right, mul-le-mul, mul-le-mul-right, mul-comm, mul-assoc, mul-one, one-mul, zero-mul, le-refl}
+use native.Mathlib.Nat.{le-of-mul-le-mul-right, mul-le-mul-right, mul-comm, mul-assoc, mul-one, one-mul, zero-mul, le-refl}
 use native.Mathlib.Omega.{arith}
 use native.Mathlib.Decide.{decLt}
 use lib.IntN.{pos}
@@ -20,9 +20,6 @@ use Rattle.line.proofs.Sizes.{factor-size, enter-size, leave-size}
 use Rattle.line.proofs.Scenes.{leg-is}
 use Rattle.place.specs.declared.fraction.Fraction.{Fraction}
 use Rattle.place.specs.Deciding.{Short, over, stretchOf, below, greater, lesser, αmin, αmax}
-
-pub product : (f h : Fraction) → Short f → Short h → f .num * h .den ≤ 2 ^ 20 * 2 ^ 20
-product f h F H = mul-le-mul {n₂ = 2 ^ 20} {m₂ = 2 ^ 20} (F .0) (H .1)
 
 abbrev pub signed : Fraction → ray.Fraction
 signed f = record { num = pos (f .num); den = f .den }

@@ -4,13 +4,13 @@ use mathlib.Core.Path.{_≡_, refl, sym, ap, _∙_}
 use native.Mathlib.Nat.{mul-le-mul-right, mul-le-mul-left, zero-mul, mul-sub}
 use native.Mathlib.Omega.{arith}
 use native.Mathlib.Decide.{decLe}
-use lib.IntN.{ℤ, pos, negℤ, natAbs, _+ℤ_, _-ℤ_, _*ℤ_, +ℤ-assoc, +ℤ-comm, +ℤ-negℤ-cancel, negℤ-+ℤ, *ℤ-comm}
-use lib.Signed.{leZ}
+use lib.IntN.{ℤ, pos, negℤ, natAbs, _+ℤ_, _-ℤ_, _*ℤ_, +ℤ-assoc, +ℤ-comm, +ℤ-negℤ-cancel, -ℤ-+ℤ-cancel, *ℤ-comm}
+use lib.Signed.{leZ, nonNeg}
 use lib.Dec.{T, le→leb}
 use borrow.Author.Tests.{le-ltb}
 use Rattle.axis.specs.Leg.{Leg}
 use Rattle.axis.proofs.Shift.{shift, Low, shift-is}
-use Rattle.ray.proofs.MovedAxis.{le-on, diff-on}
+use Rattle.ray.proofs.MovedAxis.{le-sign, diff-on}
 use Rattle.ray.proofs.Through.{sub-times}
 use Rattle.ray.proofs.Told.{neg-diff}
 use Rattle.line.proofs.Units.{abs-gap}
@@ -24,22 +24,6 @@ diff-le a b h = sym (neg-diff (pos b) (pos a)) ∙ ap negℤ (diff-ge b a h)
 
 pub diff-size : (a b : ℕ) → natAbs (pos a -ℤ pos b) ≤ a + b
 diff-size a b = omega (arith, abs-gap b a)
-
--- two differences of one number
-diff-same : (a b c d : ℕ) → a + d ≡ c + b → pos a -ℤ pos b ≡ pos c -ℤ pos d
-diff-same a b c d s = elim (decLe b a) [
-  | yes h ↦ let e : a - b ≡ c - d = omega arith in diff-ge a b h ∙ ap pos e ∙ sym (diff-ge c d (omega arith))
-  | no h ↦ let e : b - a ≡ d - c = omega arith in diff-le a b (omega arith) ∙ ap (λ (n : ℕ). negℤ (pos n)) e ∙ sym (diff-le c d (omega arith))
-]
-
-middle : (x y z w : ℤ) → (x +ℤ y) +ℤ (z +ℤ w) ≡ (x +ℤ z) +ℤ (y +ℤ w)
-middle x y z w =
-    +ℤ-assoc x y (z +ℤ w)
-    ∙ ap (λ (u : ℤ). x +ℤ u) (sym (+ℤ-assoc y z w) ∙ ap (λ (u : ℤ). u +ℤ w) (+ℤ-comm y z) ∙ +ℤ-assoc z y w)
-    ∙ sym (+ℤ-assoc x z (y +ℤ w))
-
-diff-add : (a b c d : ℕ) → (pos a -ℤ pos b) +ℤ (pos c -ℤ pos d) ≡ pos (a + c) -ℤ pos (b + d)
-diff-add a b c d = middle (pos a) (negℤ (pos b)) (pos c) (negℤ (pos d)) ∙ ap (λ (z : ℤ). pos (a + c) +ℤ z) (sym (negℤ-+ℤ (pos b) (pos d)))
 
 neg-times : (n c : ℕ) → negℤ (pos n) *ℤ pos c ≡ negℤ (pos (n * c))
 neg-times zero c = rw (zero-mul c)
@@ -57,7 +41,7 @@ diff-times a b c = elim (decLe b a) [
 pub diff-order : {y z : ℤ} (a b c : ℕ) → y ≡ pos a -ℤ pos c → z ≡ pos b -ℤ pos c → a ≤ b → T (leZ y z)
 diff-order a b c e f h =
     let o = negℤ (pos c) in
-    rw (e, f, le-on o (pos a) (pos b)) (le→leb a b h)
+    rw (e, f, le-sign (pos a +ℤ o) (pos b +ℤ o) ∙ ap nonNeg (diff-on o (pos b) (pos a)) ∙ sym (le-sign (pos a) (pos b))) (le→leb a b h)
 
 -- a coordinate told from -k up
 pub told : (k : ℕ) (z : ℤ) → Low k z → z ≡ pos (shift k z) -ℤ pos k
@@ -71,14 +55,32 @@ module _ (k : ℕ) (l : Leg) (from : Low k (l .p)) (to : Low k (l .q)) (t d : �
   abbrev q : ℕ
   q = shift k (l .q)
 
-  step : l .q -ℤ l .p ≡ pos q -ℤ pos p
-  step = sym (diff-on (pos k) (l .q) (l .p)) ∙ (λ i. shift-is k (l .q) to i -ℤ shift-is k (l .p) from i)
+  -- what is p in units of 1/d, and the way from there
+  raised : l .p *ℤ pos d +ℤ pos (k * d) ≡ pos (p * d)
+  raised =
+      ap (λ (z : ℤ). z *ℤ pos d +ℤ pos (k * d)) (told k (l .p) from)
+      ∙ ap (λ (z : ℤ). z +ℤ pos (k * d)) (diff-times p k d)
+      ∙ -ℤ-+ℤ-cancel (pos (p * d)) (pos (k * d))
+
+  onward : pos t *ℤ (l .q -ℤ l .p) ≡ pos (q * t) -ℤ pos (p * t)
+  onward =
+      *ℤ-comm (pos t) (l .q -ℤ l .p)
+      ∙ ap (λ (z : ℤ). z *ℤ pos t) (sym (diff-on (pos k) (l .q) (l .p)) ∙ (λ i. shift-is k (l .q) to i -ℤ shift-is k (l .p) from i))
+      ∙ diff-times q p t
 
   pub point-is : l .p *ℤ pos d +ℤ pos t *ℤ (l .q -ℤ l .p) ≡ pos (p * (d - t) + q * t) -ℤ pos (k * d)
   point-is =
-      let e : p * (d - t) + p * t ≡ p * d = omega (arith, mul-sub p d t, mul-le-mul-left p h) in
-      ap (λ (z : ℤ). l .p *ℤ pos d +ℤ z) (*ℤ-comm (pos t) (l .q -ℤ l .p) ∙ ap (λ (z : ℤ). z *ℤ pos t) step ∙ diff-times q p t)
-      ∙ ap (λ (z : ℤ). z *ℤ pos d +ℤ (pos (q * t) -ℤ pos (p * t))) (told k (l .p) from)
-      ∙ ap (λ (z : ℤ). z +ℤ (pos (q * t) -ℤ pos (p * t))) (diff-times p k d)
-      ∙ diff-add (p * d) (k * d) (q * t) (p * t)
-      ∙ diff-same (p * d + q * t) (k * d + p * t) (p * (d - t) + q * t) (k * d) (omega arith)
+      let x = l .p *ℤ pos d in
+      let y = pos t *ℤ (l .q -ℤ l .p) in
+      let z = pos (k * d) in
+      let less = mul-le-mul-left p h in
+      let e : p * d + q * t - p * t ≡ p * (d - t) + q * t = omega (arith, mul-sub p d t) in
+      sym (+ℤ-negℤ-cancel (x +ℤ y) z)
+      ∙ ap (λ (w : ℤ). w -ℤ z)
+      (+ℤ-assoc x y z
+      ∙ ap (λ (w : ℤ). x +ℤ w) (+ℤ-comm y z)
+      ∙ sym (+ℤ-assoc x z y)
+      ∙ (λ i. raised i +ℤ onward i)
+      ∙ sym (+ℤ-assoc (pos (p * d)) (pos (q * t)) (negℤ (pos (p * t))))
+      ∙ diff-ge (p * d + q * t) (p * t) (omega arith)
+      ∙ ap pos e)

@@ -21,7 +21,7 @@ use Rattle.place.specs.declared.Point.{Point}
 use Rattle.place.specs.declared.Mark.the-variants as mark
 use Rattle.place.specs.Answers.{nearest, coordinate, refusalOf, placeOf, pointAt, pointsOf}
 use Rattle.place.proofs.Accepted.{accepted}
-use Rattle.place.proofs.Signed.{nearest-same}
+use Rattle.place.proofs.Signed.{nearest-is}
 use Rattle.place.proofs.OnLeg.{coordinate-is}
 
 abbrev pub nearestTo : Fraction → Float
@@ -33,9 +33,6 @@ along l α = record { num = l .p *ℤ pos (α .den) +ℤ α .num *ℤ (l .q -ℤ
 
 abbrev pub pointTo : Ray → Fraction → Point
 pointTo r α = record { x = nearestTo (along (leg r X) α); y = nearestTo (along (leg r Y) α); z = nearestTo (along (leg r Z) α) }
-
-nearest-is : {d : ℕ} {α : Fraction} {t : ℕ} → Is d α t → nearestTo α ≡ nearest (pos t) d
-nearest-is {d} {α} {t} p = nearest-same (α .num) (pos t) (α .den) d (p .den-pos) (p .d-pos) (p .is)
 
 module _ (m : Limits) (g : Grid) (r : Ray) (ok : refusalOf m g r ≡ 0) (hit : misses (volume g) r ≡ false) where
   abbrev box : Side → Slab

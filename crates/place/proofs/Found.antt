@@ -1,19 +1,19 @@
 -- What is found of a ray: whether it is refused, misses or hits by RULES 4, and on a hit αmin and αmax as short fractions,
 -- at any limits that are small enough. Assumes nothing.
 use Prim.Native.Nat.{ℕ, _<_}
-use mathlib.Core.Path.{_≡_, refl, sym, ap, _∙_}
+use mathlib.Core.Path.{_≡_, refl, sym, ap, _∙_, subst}
 use mathlib.Core.Bool.{Bool, true, false, not, _||_, cond}
 use native.Mathlib.Decide.{ℕ-discrete}
-use native.Mathlib.Omega.{arith}
 use lib.IntN.{pos}
 use lib.Dec.{eqb, leb}
-use borrow.Author.Tests.{eq-eqb, ne-eqb, eqb-true, not-false}
+use borrow.Author.Tests.{eq-eqb, ne-eqb, not-false}
 use Rattle.axis.specs.declared.Limits.{Limits}
 use Rattle.axis.proofs.Flag.{lt-not-le, or-right}
 use Rattle.ray.specs.declared.Grid.{Grid}
 use Rattle.ray.specs.declared.Ray.{Ray}
-use Rattle.ray.specs.Length.{dOf, Volume, volume, array, start, stop, holds, misses}
-use Rattle.ray.proofs.Moved.{Moved, d-moved, start-moved, stop-moved, array-moved, misses-moved}
+use Rattle.ray.specs.Length.{Side, dOf, Volume, volume, array, start, stop, holds, misses}
+use Rattle.ray.proofs.MovedAxis.{slabOn}
+use Rattle.ray.proofs.Moved.{Moved, d-moved, start-moved, stop-moved, holds-moved, array-moved, misses-moved}
 use Rattle.ray.proofs.HitOrMiss.{ahead}
 use Rattle.line.specs.declared.scene.Scene.{Scene}
 use Rattle.line.specs.Scene.{volumeOf, rayOf, Able}
@@ -45,18 +45,35 @@ through-is s able =
 is-same : {f : Fraction} {n n′ d d′ : ℕ} → n ≡ n′ → d ≡ d′ → Is f n d → Is f n′ d′
 is-same e h F = rw (e, h) at F
 
-through : (t u : Bool) (c : ℕ) (e′ l′ e l : Fraction) → cond t (cond u Miss (Through e′ l′)) (Refused c) ≡ Through e l
-    → (t ≡ true) × ((u ≡ false) × ((e′ ≡ e) × (l′ ≡ l)))
-through true false c e′ l′ e l h = (refl, (refl, (cc, cc)))
-through true true c e′ l′ e l h = let z : _≡_ {A = ℕ} 0 1 = cc in absurd (omega arith)
-through false u c e′ l′ e l h = let z : _≡_ {A = ℕ} 0 1 = cc in absurd (omega arith)
-
 module _ (m : Limits) (g : Grid) (r : Ray) where
   abbrev s : Scene
   s = sceneOf m g r
 
   abbrev v : Volume
   v = volume g
+
+  -- the scene is the grid and the ray moved by the limit
+  module _ (ok : Accepted m g r) where
+    moved : Moved (pos (m .coord)) v (volumeOf s) r (rayOf s)
+    moved = raised.moved m g r (ok .grid) (ok .ends)
+
+    box : (o : Side) → array (volumeOf s) o ≡ slabOn (pos (m .coord)) (array v o)
+    box = array-moved (pos (m .coord)) v (volumeOf s) r (rayOf s) moved
+
+    pub d-same : dOf (rayOf s) ≡ dOf r
+    d-same = d-moved (pos (m .coord)) v (volumeOf s) r (rayOf s) moved
+
+    pub start-same : start (rayOf s) (array (volumeOf s)) ≡ start r (array v)
+    start-same = start-moved (pos (m .coord)) v (volumeOf s) r (rayOf s) moved (array v) (array (volumeOf s)) box
+
+    pub stop-same : stop (rayOf s) (array (volumeOf s)) ≡ stop r (array v)
+    stop-same = stop-moved (pos (m .coord)) v (volumeOf s) r (rayOf s) moved (array v) (array (volumeOf s)) box
+
+    pub holds-same : holds (rayOf s) (array (volumeOf s)) ≡ holds r (array v)
+    holds-same = holds-moved (pos (m .coord)) v (volumeOf s) r (rayOf s) moved (array v) (array (volumeOf s)) box
+
+    misses-same : misses (volumeOf s) (rayOf s) ≡ misses v r
+    misses-same = misses-moved (pos (m .coord)) v (volumeOf s) r (rayOf s) moved
 
   pub crossed : refusalOf m g r ≡ 0 → crossingOf m g r ≡ throughOf s
   unfolding crossingOf
@@ -66,58 +83,58 @@ module _ (m : Limits) (g : Grid) (r : Ray) where
   unfolding crossingOf
   refused h = rw (ne-eqb (refusalOf m g r) 0 h) refl
 
-  pub moved : Accepted m g r → Moved (pos (m .coord)) v (volumeOf s) r (rayOf s)
-  moved ok = raised.moved m g r (ok .grid) (ok .ends)
-
   pub record Hit (e l : Fraction) : Type 0 where
+    pub code : refusalOf m g r ≡ 0
     pub ok : Accepted m g r
+    pub meets : misses v r ≡ false
     pub held : holds r (array v) ≡ true
     pub strict : start r (array v) < stop r (array v)
     pub enters : Is e (start r (array v)) (dOf r)
     pub leaves : Is l (stop r (array v)) (dOf r)
 
+  -- what each of the three says of the grid and the ray
+  abbrev Found : Crossing → Type 0
+  Found (Refused c) = (c ≡ refusalOf m g r) × (refusalOf m g r ≡ 0 → ⊥)
+  Found Miss = (refusalOf m g r ≡ 0) × (misses v r ≡ true)
+  Found (Through e l) = Hit e l
+
   module _ (small : Small m) where
     pub able : Accepted m g r → Able s
     able ok = raised.able m g r (ok .grid) (ok .ends) small
 
-    hit-of : Accepted m g r → misses v r ≡ false → Hit (enter s) (leave s)
+    accepted-by : (u : Bool) → misses v r ≡ u → refusalOf m g r ≡ 0 → Found (cond u Miss (Through (enter s) (leave s)))
     unfolding misses
-    hit-of ok h =
-        let on = moved ok in
-        let k = pos (m .coord) in
-        let same = array-moved on in
-        let d = d-moved on in
+    accepted-by true h code = (code, h)
+    accepted-by false h code =
+        let ok = accepted m g r code in
         record {
+          code = code;
           ok = ok;
+          meets = h;
           held = not-false _ (or-right (leb (stop r (array v)) (start r (array v))) _ h);
           strict = ahead v r h;
-          enters = is-same (start-moved on (array v) same) d (αmin-is s (able ok));
-          leaves = is-same (stop-moved on (array v) same) d (αmax-is s (able ok));
+          enters = is-same (start-same ok) (d-same ok) (αmin-is s (able ok));
+          leaves = is-same (stop-same ok) (d-same ok) (αmax-is s (able ok));
         }
 
-    crossing-is : crossingOf m g r ≡ cond (eqb (refusalOf m g r) 0) (cond (misses v r) Miss (Through (enter s) (leave s))) (Refused (refusalOf m g r))
-    unfolding crossingOf
-    crossing-is = elim (ℕ-discrete (refusalOf m g r) 0) [
+    found : Found (crossingOf m g r)
+    found = elim (ℕ-discrete (refusalOf m g r) 0) [
       | yes h ↦
           let ok = accepted m g r h in
-          rw (eq-eqb (refusalOf m g r) 0 h)
-          (through-is s (able ok) ∙ ap (λ (t : Bool). cond t Miss (Through (enter s) (leave s))) (misses-moved (moved ok)))
-      | no h ↦ rw (ne-eqb (refusalOf m g r) 0 h) refl
+          let same = ap (λ (t : Bool). cond t Miss (Through (enter s) (leave s))) (misses-same ok) in
+          subst Found (sym (crossed h ∙ through-is s (able ok) ∙ same)) (accepted-by (misses v r) refl h)
+      | no h ↦ subst Found (sym (refused h)) (refl, h)
     ]
 
     pub hit : (e l : Fraction) → crossingOf m g r ≡ Through e l → Hit e l
-    hit e l h =
-        let t = through (eqb (refusalOf m g r) 0) (misses v r) (refusalOf m g r) (enter s) (leave s) e l (sym crossing-is ∙ h) in
-        rw (t .1 .1 .0, t .1 .1 .1) at (hit-of (accepted m g r (eqb-true (refusalOf m g r) 0 (t .0))) (t .1 .0))
+    hit e l h = subst Found h found
 
     -- an answer made of what was found, where y is that of a hit
     module _ {A : Type 0} (f : Crossing → A) (y : A) (each : (e l : Fraction) → Hit e l → f (Through e l) ≡ y) where
-      on-hit : (u : Bool) → misses v r ≡ u → Accepted m g r → f (cond u Miss (Through (enter s) (leave s))) ≡ cond u (f Miss) y
-      on-hit true h ok = refl
-      on-hit false h ok = each (enter s) (leave s) (hit-of ok h)
+      by : (k : Crossing) → Found k → f k ≡ cond (eqb (refusalOf m g r) 0) (cond (misses v r) (f Miss) y) (f (Refused (refusalOf m g r)))
+      by (Refused c) F = rw (ne-eqb (refusalOf m g r) 0 (F .1)) (ap (λ (x : ℕ). f (Refused x)) (F .0))
+      by Miss F = rw (eq-eqb (refusalOf m g r) 0 (F .0), F .1) refl
+      by (Through e l) F = rw (eq-eqb (refusalOf m g r) 0 (F .code), F .meets) (each e l F)
 
       pub answer-is : f (crossingOf m g r) ≡ cond (eqb (refusalOf m g r) 0) (cond (misses v r) (f Miss) y) (f (Refused (refusalOf m g r)))
-      answer-is = elim (ℕ-discrete (refusalOf m g r) 0) [
-        | yes h ↦ rw (crossing-is, eq-eqb (refusalOf m g r) 0 h) (on-hit (misses v r) refl (accepted m g r h))
-        | no h ↦ rw (crossing-is, ne-eqb (refusalOf m g r) 0 h) refl
-      ]
+      answer-is = by (crossingOf m g r) found

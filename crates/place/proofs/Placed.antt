@@ -6,13 +6,13 @@ use native.Mathlib.Omega.{arith}
 use native.Mathlib.Nat.{le-trans, le-of-lt}
 use lib.Ieee.{Float, binary64, round}
 use mathlib.Core.Bool.{false}
-use lib.Ieee.Scale.{round-same}
 use borrow.Author.Tests.{lt-ltb, ltb-true}
 use Rattle.axis.specs.declared.Limits.{Limits}
 use Rattle.ray.specs.declared.Grid.{Grid}
 use Rattle.ray.specs.declared.Ray.{Ray}
 use Rattle.ray.specs.Length.{dOf, volume, array, start, stop}
 use Rattle.ray.proofs.Capped.{stop-cap}
+use Rattle.ray.proofs.Fraction.{exact}
 use Rattle.line.specs.Raised.{Small}
 use Rattle.place.specs.declared.Place.{Place}
 use Rattle.place.specs.declared.Place.the-variants as place
@@ -23,15 +23,13 @@ use Rattle.place.specs.Deciding.{OnRay, crossingOf}
 use Rattle.place.specs.Answers.{placeOf}
 use Rattle.place.proofs.Deciding.{Is, below-is, up-to-one}
 use Rattle.place.proofs.Shown.{Shown, shown}
+use Rattle.place.proofs.Signed.{nearest-is}
 use Rattle.place.proofs.Found.{Hit, hit, answer-is}
 
 abbrev pub placed : Crossing → Place
 placed (Refused c) = place.Refused c
 placed Miss = place.Miss
 placed (Through e l) = place.Hit (round binary64 false (e .num) (e .den)) (round binary64 false (l .num) (l .den))
-
-nearest-is : {f : Fraction} {n d : ℕ} → Is f n d → round binary64 false (f .num) (f .den) ≡ round binary64 false n d
-nearest-is {f} {n} {d} F = round-same binary64 false (f .num) (f .den) n d (F .at .den-pos) (F .at .d-pos) (F .at .at)
 
 on-ray : {f : Fraction} {n d : ℕ} → Is f n d → n ≤ d → OnRay f
 on-ray {f} {n} {d} F h = record { short = F .short; some = F .at .den-pos; most = up-to-one (f .num) (f .den) n d (F .at .d-pos) (F .at .at) h }
@@ -56,7 +54,7 @@ module _ (m : Limits) (g : Grid) (r : Ray) (small : Small m) where
 
   pub place-is : placed (crossingOf m g r) ≡ placeOf m g r
   unfolding placeOf
-  place-is = answer-is m g r small placed hitting (λ e l H. rw (nearest-is (H .enters), nearest-is (H .leaves)))
+  place-is = answer-is m g r small placed hitting (λ e l H. rw (nearest-is (exact _ (H .enters .at) refl), nearest-is (exact _ (H .leaves .at) refl)))
 
   from-found : (k : Crossing) (enter leave : Float) → crossingOf m g r ≡ k → placed k ≡ place.Hit enter leave → Shown enter leave
   from-found (Refused c) enter leave h p = let z : _≡_ {A = ℕ} 0 1 = cc in absurd (omega arith)

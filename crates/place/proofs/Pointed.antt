@@ -1,7 +1,7 @@
 -- The point call's answer from what was found, and what RULES 8 says of every hit's two points, for every grid and ray that the
 -- call accepts, at any limits that are small enough. Assumes nothing.
 use Prim.Native.Nat.{ℕ, _≤_, zero-le}
-use mathlib.Core.Path.{_≡_, refl, sym, ap, _∙_, subst}
+use mathlib.Core.Path.{_≡_, refl, sym, _∙_, subst}
 use native.Mathlib.Nat.{le-refl, le-trans, lt-of-lt-of-le, lt-of-le-of-lt, le-of-eq, le-of-lt}
 use native.Mathlib.Omega.{arith}
 use lib.IntN.{ℤ, pos, _*ℤ_}
@@ -14,10 +14,9 @@ use Rattle.ray.specs.declared.Ray.{Ray}
 use Rattle.ray.specs.Length.{Side, X, Y, Z, leg, dOf, volume, array, start, stop}
 use Rattle.ray.proofs.Accepted.{axisOf, axes-ok, ends-inside}
 use Rattle.ray.proofs.Capped.{d-pos, stop-cap}
-use Rattle.ray.proofs.Moved.{d-moved, start-moved, stop-moved, holds-moved, array-moved}
 use Rattle.line.specs.declared.line.Line.{Line}
 use Rattle.line.specs.declared.scene.Scene.{Scene}
-use Rattle.line.specs.Scene.{plane, line, volumeOf, rayOf}
+use Rattle.line.specs.Scene.{plane, line}
 use Rattle.line.specs.Raised.{Small, lineOf, sceneOf}
 use Rattle.place.specs.declared.Point.{Point}
 use Rattle.place.specs.declared.Points.{Points}
@@ -32,7 +31,7 @@ use Rattle.place.proofs.Signed.{exact}
 use Rattle.place.proofs.Shown.{ZeroPlain}
 use Rattle.place.proofs.Within.{Between, within}
 use Rattle.place.proofs.OnLeg.{exactly, coordinate-is, coordinate-plain, planes-hold}
-use Rattle.place.proofs.Found.{moved, Hit, hit, answer-is}
+use Rattle.place.proofs.Found.{d-same, start-same, stop-same, holds-same, Hit, hit, answer-is}
 
 -- a point by its axes
 abbrev pub on : Point → Side → Float
@@ -65,10 +64,7 @@ module _ (m : Limits) (g : Grid) (r : Ray) where
   abbrev s : Scene
   s = sceneOf m g r
 
-  abbrev on-line : Side → Line
-  on-line o = lineOf m (axisOf g o) (leg r o .p) (leg r o .q)
-
-  line-is : (o : Side) → line s o ≡ on-line o
+  line-is : (o : Side) → line s o ≡ lineOf m (axisOf g o) (leg r o .p) (leg r o .q)
   line-is X = refl
   line-is Y = refl
   line-is Z = refl
@@ -84,17 +80,16 @@ module _ (m : Limits) (g : Grid) (r : Ray) where
       most : t ≤ dOf r
       most = le-trans until (stop-cap r box)
 
-      between : (o : Side) → Between (plane (on-line o) 0) (plane (on-line o) (on-line o .n)) (on-line o .p) (on-line o .q) t (dOf r)
+      abbrev In : Line → ℕ → Type 0
+      In x d = Between (plane x 0) (plane x (x .n)) (x .p) (x .q) t d
+
+      between : (o : Side) → In (lineOf m (axisOf g o) (leg r o .p) (leg r o .q)) (dOf r)
       between o =
-          let k = pos (m .coord) in
-          let on = moved m g r (H .ok) in
-          let there = array-moved on in
-          let from = start-moved on box there in
-          let to = stop-moved on box there in
-          let held = holds-moved on box there in
-          let here = within s (held ∙ H .held) t (lt-of-lt-of-le (lt-of-le-of-lt zero-le (H .strict)) (le-of-eq (sym to))) (le-trans (le-of-eq from) after) (le-trans until (le-of-eq (sym to))) o in
-          subst (λ (x : Line). Between (plane x 0) (plane x (x .n)) (x .p) (x .q) t (dOf r)) (line-is o)
-          (subst (λ (d : ℕ). Between (plane (line s o) 0) (plane (line s o) (line s o .n)) (line s o .p) (line s o .q) t d) (d-moved on) here)
+          let to = le-of-eq (sym (stop-same m g r (H .ok))) in
+          let some = lt-of-lt-of-le (lt-of-le-of-lt zero-le (H .strict)) to in
+          let from = le-trans (le-of-eq (start-same m g r (H .ok))) after in
+          let here = within s (holds-same m g r (H .ok) ∙ H .held) t some from (le-trans until to) o in
+          subst (λ (x : Line). In x (dOf r)) (line-is o) (subst (λ (d : ℕ). In (line s o) d) (d-same m g r (H .ok)) here)
 
       abbrev InPlanes : Side → Slab → Type 0
       InPlanes o b = T (le (ofInt binary64 (b .lo)) (coordinate (leg r o) t (dOf r))) × T (le (coordinate (leg r o) t (dOf r)) (ofInt binary64 (b .hi)))

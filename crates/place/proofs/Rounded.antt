@@ -1,26 +1,22 @@
 -- The order of rounded fractions that are not negative: two fractions apart stay apart. Assumes nothing.
 use mathlib.Core.Path.{_≡_, sym, subst}
-use mathlib.Core.Logic.{_⊎_, inl, inr}
 use Prim.Native.Nat.{ℕ, suc, _+_, _*_, _/_, _%_, _^_, _≤_, _<_}
-use native.Mathlib.Nat.{le-trans, le-of-eq, le-of-lt, lt-of-lt-of-le, lt-irrefl, mul-comm, mul-assoc, mul-right-comm, mul-one, one-mul, mul-le-mul, mul-le-mul-right, mul-lt-mul-of-pos-right, le-of-mul-le-mul-right, le-suc, suc-mul, add-mul, div-mul-le-self, div-add-mod', mod-lt}
+use native.Mathlib.Nat.{le-trans, le-of-eq, lt-of-lt-of-le, lt-irrefl, mul-comm, mul-assoc, mul-right-comm, mul-one, one-mul, mul-le-mul, mul-le-mul-right, mul-lt-mul-of-pos-right, le-of-mul-le-mul-right, le-suc, suc-mul, add-mul, div-mul-le-self, div-add-mod', mod-lt}
 use native.Mathlib.Omega.{arith}
-use native.Mathlib.Decide.{decLt}
+use native.Mathlib.Decide.{decLe, decLt}
 use mathlib.Core.Bool.{Bool, true, false, not, _&&_, _||_, cond, true≢false}
-use lib.Dec.{T, ltb, eqb, eqb→eq, ltb→lt, lt→ltb, lit<, lit≤}
+use lib.Dec.{T, ltb, eqb, lt→ltb, lit<, lit≤}
 use lib.Pow.{pow-pos}
 use lib.Ieee.{Float, nan, inf, fin, Format, binary64, prec, emax, low, up, down, odd, units, round, lt, le}
-use lib.Ieee.Fits.{round-is, down-pos, and-l}
+use lib.Ieee.Fits.{round-is, down-pos}
 use lib.Ieee.Exact.{HasValue, round-exact, odd-sign}
 use lib.Ieee.Order.{transfer, round-mono}
 use lib.Ieee.Scale.{round-val, round-under, finite, grid}
 use lib.Ieee.Back.{round-whole}
-
-or-split : (a b : Bool) → T (a || b) → T a ⊎ T b
-or-split true b t = inl tt
-or-split false b t = inr t
+use borrow.Author.Tests.{le-ltb, ne-eqb}
 
 pub lt-or-eq : (a b : ℕ) → T (ltb a b || (eqb a b && true)) → a ≤ b
-lt-or-eq a b t = elim (or-split (ltb a b) (eqb a b && true) t) [ inl u ↦ le-of-lt (ltb→lt a b u) | inr u ↦ le-of-eq (eqb→eq a b (and-l (eqb a b) true u)) ]
+lt-or-eq a b t = elim (decLe a b) [ yes h ↦ h | no h ↦ absurd (rw (le-ltb a b (omega arith), ne-eqb a b (λ e. omega arith)) at t) ]
 
 pub values-of-le : (x y : Float) (a c b d : ℕ) → HasValue x false a c → HasValue y false b d → T (le x y) → a * d ≤ b * c
 unfolding le

@@ -1,19 +1,21 @@
 -- The float nearest a signed fraction: equal for equal fractions, in their order, exact on whole numbers, and no negative zero.
 -- Assumes nothing.
-use mathlib.Core.Path.{_≡_, refl, sym, ap, _∙_, subst}
-use mathlib.Core.Logic.{inl, inr}
+use mathlib.Core.Path.{_≡_, refl, sym, ap, _∙_}
 use Prim.Native.Nat.{ℕ, zero, suc, _+_, _*_, _^_, _≤_, _<_, zero-le, suc-le-suc}
-use native.Mathlib.Nat.{lt-irrefl, eq-or-lt-of-le, mul-pos, mul-one, zero-lt-suc}
+use native.Mathlib.Nat.{lt-irrefl, mul-pos, mul-one, zero-lt-suc}
 use native.Mathlib.Omega.{arith}
+use native.Mathlib.Decide.{decLt}
 use mathlib.Core.Bool.{Bool, true, false, _&&_, _||_, cond}
 use lib.IntN.{ℤ, pos, negsuc, negℤ, _*ℤ_}
 use lib.Signed.{leZ}
-use lib.Dec.{T, ltb, eqb, eqb-refl, lt→ltb, leb→le, lit<}
+use lib.Dec.{T, ltb, eqb, leb→le, lit<}
 use lib.Count.{trailingZeros}
 use lib.Ieee.{Float, inf, fin, Format, binary64, prec, emax, low, up, down, odd, units, size, span, climb, round, neg, lt, eq, le, ofInt}
-use lib.Ieee.Fits.{round-is, round-fits, and-l}
+use lib.Ieee.Fits.{round-is, round-fits, and-i, and-l}
 use lib.Ieee.Order.{round-mono}
 use lib.Ieee.Scale.{round-same}
+use borrow.Author.Tests.{lt-ltb, le-ltb, eq-eqb}
+use Rattle.ray.proofs.Fraction.{Fraction, Is}
 use Rattle.place.specs.Answers.{nearest}
 use Rattle.place.proofs.Rounded.{bare, round-bare, lt-or-eq}
 use Rattle.place.proofs.Shown.{zero64, ZeroPlain, zero-plain}
@@ -35,6 +37,9 @@ nearest-same (pos a) (negsuc c) b d B D e = absurd (not-same (a * d) (suc c * b)
 nearest-same (negsuc a) (pos c) b d B D e = absurd (not-same (c * b) (suc a * d) (mul-pos (zero-lt-suc a) D) (sym e))
 nearest-same (negsuc a) (negsuc c) b d B D e = round-same binary64 true (suc a) b (suc c) d B D (neg-same (suc a * d) (suc c * b) e)
 
+pub nearest-is : {d : ℕ} {x : Fraction} {n : ℕ} → Is d x n → nearest (x .num) (x .den) ≡ nearest (pos n) d
+nearest-is {d} {x} {n} p = nearest-same (x .num) (pos n) (x .den) d (p .den-pos) (p .d-pos) (p .is)
+
 -- a negative value is the positive one negated
 odd-neg : (d q k l : ℕ) → odd d true q k l ≡ neg (odd d false q k l)
 unfolding odd neg
@@ -53,29 +58,18 @@ round-neg : (f : Format) (a b : ℕ) → round f true a b ≡ neg (round f false
 round-neg f a b = round-is f true a b ∙ units-neg f _ _ ∙ ap neg (sym (round-is f false a b))
 
 -- the order, with signs
-or-l : (a b : Bool) → T a → T (a || b)
-or-l true b t = tt
-or-l false b t = absurd t
-
-or-r : (a b : Bool) → T b → T (a || b)
-or-r true b t = tt
-or-r false b t = t
-
-and-t : (x : Bool) → T x → T (x && true)
-and-t true t = tt
-and-t false t = t
-
 of-le : (a b : ℕ) → a ≤ b → T (ltb a b || (eqb b a && true))
-of-le a b h = elim (eq-or-lt-of-le h) [
-  | inl p ↦ or-r (ltb a b) (eqb b a && true) (subst (λ (x : ℕ). T (eqb x a && true)) p (and-t (eqb a a) (eqb-refl a)))
-  | inr q ↦ or-l (ltb a b) (eqb b a && true) (lt→ltb a b q)
+of-le a b h = elim (decLt a b) [
+  | yes l ↦ rw (lt-ltb a b l) tt
+  | no l ↦ let e : b ≡ a = omega arith in rw (le-ltb a b (omega arith), eq-eqb b a e) tt
 ]
 
 -- -a ≤ b
 apart : (a b : ℕ) → T (ltb 0 (a + b) || (eqb a b && eqb a 0))
-apart zero zero = tt
-apart zero (suc b) = or-l (ltb 0 (0 + suc b)) (eqb 0 (suc b) && eqb 0 0) (lt→ltb 0 (0 + suc b) (omega arith))
-apart (suc a) b = or-l (ltb 0 (suc a + b)) (eqb (suc a) b && eqb (suc a) 0) (lt→ltb 0 (suc a + b) (omega arith))
+apart a b = elim (decLt 0 (a + b)) [
+  | yes h ↦ rw (lt-ltb 0 (a + b) h) tt
+  | no h ↦ let d : a ≡ 0 = omega arith in let e : b ≡ 0 = omega arith in rw (d, e) tt
+]
 
 neg-le-neg : (x y : Float) → T (bare x) → T (bare y) → T (le y x) → T (le (neg x) (neg y))
 unfolding le neg
@@ -135,7 +129,7 @@ exact z c d D e = nearest-same z c d 1 D (lit< tt) (times-one z ∙ e) ∙ sym (
 eq-neg : (x : Float) → T (bare x) → T (eq (neg x) zero64) → T (eq x zero64)
 unfolding eq neg
 eq-neg (inf false) b h = h
-eq-neg (fin false m e) b h = and-t (eqb (m * up e * 1) (0 * 1 * down e)) (and-l (eqb (m * up e * 1) (0 * 1 * down e)) _ h)
+eq-neg (fin false m e) b h = let z = eqb (m * up e * 1) (0 * 1 * down e) in and-i z true (and-l z _ h) tt
 
 not-zero : T (le (round binary64 false 1 (2 ^ 20)) zero64) → ⊥
 unfolding le lt eq round units odd size span climb trailingZeros

@@ -2,7 +2,7 @@
 use Prim.Native.Nat.{ℕ, _+_, _-_, _*_, _^_, _≤_, _<_}
 use mathlib.Core.Path.{_≡_, sym, ap, _∙_}
 use mathlib.Core.Bool.{true}
-use native.Mathlib.Nat.{mul-le-mul-right, mul-le-mul-left, mul-comm, mul-assoc, mul-left-comm, mul-sub, add-mul, le-trans, le-of-eq, le-of-lt, lt-of-lt-of-le, min-le-left, min-le-right}
+use native.Mathlib.Nat.{mul-le-mul-right, mul-le-mul-left, mul-comm, mul-assoc, mul-left-comm, mul-sub, add-mul, le-refl, le-trans, le-of-eq, le-of-lt, lt-of-lt-of-le, min-le-left, min-le-right}
 use native.Mathlib.Omega.{arith}
 use lib.Ieee.Positive.{first-pos}
 use Rattle.axis.specs.Leg.{factor, held}
@@ -13,6 +13,7 @@ use Rattle.ray.proofs.Capped.{d-side}
 use Rattle.line.specs.declared.scene.Scene.{Scene}
 use Rattle.line.specs.Scene.{legN, plane, line}
 use Rattle.line.proofs.Units.{enterBy, leaveBy, HeldBy, factor-is}
+use Rattle.line.proofs.Sizes.{two-sizes}
 use Rattle.line.proofs.Three.{le-most, least-le}
 use Rattle.line.proofs.Scenes.{vol, ray, way, going, leg-is, enter, leave, start-array, stop-array, all-held, held-there}
 use Rattle.place.specs.declared.fraction.Fraction.{Fraction}
@@ -25,11 +26,11 @@ spot p q t d = p * (d - t) + q * t
 split : (p t d : ℕ) → t ≤ d → p * (d - t) + p * t ≡ p * d
 split p t d h = omega (arith, mul-sub p d t, mul-le-mul-left p h)
 
-spot-most : (p q t d k : ℕ) → p ≤ k → q ≤ k → t ≤ d → spot p q t d ≤ k * d
+pub spot-most : (p q t d k : ℕ) → p ≤ k → q ≤ k → t ≤ d → spot p q t d ≤ k * d
 spot-most p q t d k hp hq h = omega (arith, mul-le-mul-right (d - t) hp, mul-le-mul-right t hq, split k t d h)
 
-pub spot-short : (p q : ℕ) (f : Fraction) → p ≤ 2 ^ 20 → q ≤ 2 ^ 20 → OnRay f → spot p q (f .num) (f .den) ≤ 2 ^ 20 * 2 ^ 20
-spot-short p q f hp hq on = le-trans (spot-most p q (f .num) (f .den) (2 ^ 20) hp hq (on .most)) (mul-le-mul-left (2 ^ 20) (on .short .1))
+pub spot-short : (p q : ℕ) (f : Fraction) → p ≤ 2 ^ 20 → q ≤ 2 ^ 20 → OnRay f → spot p q (f .num) (f .den) ≤ 2 ^ 40
+spot-short p q f hp hq on = le-trans (spot-most p q (f .num) (f .den) (2 ^ 20) hp hq (on .most)) (two-sizes (le-refl (2 ^ 20)) (on .short .1))
 
 -- what lies between two planes
 abbrev pub Between : (lo hi p q t d : ℕ) → Type 0
@@ -53,17 +54,19 @@ ordered : (a b c : ℕ) → a ≤ b → a * c + (b - a) * c ≡ b * c
 ordered a b c h = omega (arith, sub-times b a c, mul-le-mul-right c h)
 
 module _ {lo hi p q n t d : ℕ} where
+  from : (w : Way) → In w lo hi p q n t d → enterBy w p lo hi * d ≤ factorBy w p q * t
+  from w i = le-trans (le-of-eq (away (enterBy w p lo hi) (factorBy w p q) n d (i .whole))) (mul-le-mul-left (factorBy w p q) (i .after))
+
+  to : (w : Way) → In w lo hi p q n t d → factorBy w p q * t ≤ leaveBy w p lo hi * d
+  to w i = le-trans (mul-le-mul-left (factorBy w p q) (i .until)) (le-of-eq (sym (away (leaveBy w p lo hi) (factorBy w p q) n d (i .whole))))
+
   between : (w : Way) → In w lo hi p q n t d → Between lo hi p q t d
   between up i =
       let at : spot p q t d ≡ p * d + (q - p) * t = omega (arith, split p t d (i .most), ordered p q t (omega (arith, i .goes))) in
-      let from : (lo - p) * d ≤ (q - p) * t = le-trans (le-of-eq (away (lo - p) (q - p) n d (i .whole))) (mul-le-mul-left (q - p) (i .after)) in
-      let to : (q - p) * t ≤ (hi - p) * d = le-trans (mul-le-mul-left (q - p) (i .until)) (le-of-eq (sym (away (hi - p) (q - p) n d (i .whole)))) in
-      (omega (arith, at, from, sub-times lo p d), omega (arith, at, to, ordered p hi d (omega (arith, i .some))))
+      (omega (arith, at, from up i, sub-times lo p d), omega (arith, at, to up i, ordered p hi d (omega (arith, i .some))))
   between down i =
       let at : spot p q t d + (p - q) * t ≡ p * d = omega (arith, split p t d (i .most), ordered q p t (omega (arith, i .goes))) in
-      let from : (p - hi) * d ≤ (p - q) * t = le-trans (le-of-eq (away (p - hi) (p - q) n d (i .whole))) (mul-le-mul-left (p - q) (i .after)) in
-      let to : (p - q) * t ≤ (p - lo) * d = le-trans (mul-le-mul-left (p - q) (i .until)) (le-of-eq (sym (away (p - lo) (p - q) n d (i .whole)))) in
-      (omega (arith, at, to, ordered lo p d (omega (arith, i .some))), omega (arith, at, from, sub-times p hi d))
+      (omega (arith, at, to down i, ordered lo p d (omega (arith, i .some))), omega (arith, at, from down i, sub-times p hi d))
   between still i =
       let at : spot p q t d ≡ p * d = ap (λ (x : ℕ). p * (d - t) + x * t) (sym (i .goes)) ∙ split p t d (i .most) in
       (omega (arith, at, mul-le-mul-right d (i .held .0)), omega (arith, at, mul-le-mul-right d (le-of-lt (i .held .1))))

@@ -1,15 +1,10 @@
-// The place call and the point call.
+// The place call and the point call, at the limits of the device whose unit is a tenth of a millimetre.
 ghost use mathlib.Core.Path.{_≡_};
 ghost use Rattle.axis.specs.Codes.{tenths};
-ghost use Rattle.place.specs.Answers.{refusalOf, placeOf, told, toldOf, nowhere, markCode, pointsOf};
-use crate::Mark;
+ghost use Rattle.place.specs.Answers.{refusalOf, placeOf, told, toldOf, markCode, pointsOf};
 use crate::Place;
-use crate::Point;
 use crate::Points;
-use crate::coordinate::point_at;
-use crate::crossing::Crossing;
-use crate::crossing::across;
-use crate::fraction::quotient;
+use crate::device;
 use axis::Axis;
 use ray::Grid;
 use ray::Ray;
@@ -18,47 +13,12 @@ pub fn place(g: Grid, r: Ray) -> Place
     ensures { λ a. ⌜ a ≡ placeOf tenths g r ⌝ }
     ensures { λ a. ⌜ told a ≡ toldOf tenths g r ⌝ }
 {
-    let c = across(Axis::TENTHS, g, r);
-    match c {
-        Crossing::Refused(code) => Place::Refused(code),
-        Crossing::Miss => Place::Miss,
-        Crossing::Through(e, l) => {
-            let enter = quotient(e);
-            let leave = quotient(l);
-            Place::Hit { enter, leave }
-        }
-    }
-}
-
-// No points: all six coordinates are positive zero.
-fn unplaced(mark: Mark) -> Points
-    ensures { λ a. ⌜ a ≡ nowhere mark ⌝ }
-{
-    let p = Point {
-        x: 0.0,
-        y: 0.0,
-        z: 0.0,
-    };
-    Points {
-        mark,
-        enter: p,
-        leave: p,
-    }
+    device::place(Axis::TENTHS, g, r)
 }
 
 pub fn points(g: Grid, r: Ray) -> Points
     ensures { λ a. ⌜ a ≡ pointsOf tenths g r ⌝ }
     ensures { λ a. ⌜ markCode (a .mark) ≡ refusalOf tenths g r ⌝ }
 {
-    let c = across(Axis::TENTHS, g, r);
-    match c {
-        Crossing::Refused(code) => unplaced(Mark::Refused(code)),
-        Crossing::Miss => unplaced(Mark::Miss),
-        Crossing::Through(e, l) => {
-            let mark = Mark::Hit;
-            let enter = point_at(Axis::TENTHS, r, e);
-            let leave = point_at(Axis::TENTHS, r, l);
-            Points { mark, enter, leave }
-        }
-    }
+    device::points(Axis::TENTHS, g, r)
 }

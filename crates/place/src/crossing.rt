@@ -4,7 +4,7 @@ ghost use mathlib.Core.Bool.{_&&_};
 ghost use Rattle.line.specs.Scene.{Sized, Able};
 ghost use Rattle.line.specs.Raised.{Small};
 ghost use Rattle.place.specs.Answers.{refusalOf};
-ghost use Rattle.place.specs.Deciding.{Short, stretchOf, αmin, αmax, joinedOf, throughOf, crossingOf};
+ghost use Rattle.place.specs.Deciding.{Short, stretchOf, αmin, αmax, throughOf, crossingOf};
 use crate::fraction::Fraction;
 use crate::fraction::greater_of;
 use crate::fraction::less;
@@ -82,11 +82,13 @@ fn alpha_max(x: Stretch, y: Stretch, z: Stretch) -> Fraction
     lesser_of(whole, lesser_of(x.leave, lesser_of(y.leave, z.leave)))
 }
 
-fn joined(x: Stretch, y: Stretch, z: Stretch) -> Crossing
-    requires { ⌜ Short (x .enter) × (Short (y .enter) × Short (z .enter)) ⌝ }
-    requires { ⌜ Short (x .leave) × (Short (y .leave) × Short (z .leave)) ⌝ }
-    ensures { λ r. ⌜ r ≡ joinedOf x y z ⌝ }
+fn through(s: Scene) -> Crossing
+    requires { ⌜ Able s ⌝ }
+    ensures { λ r. ⌜ r ≡ throughOf s ⌝ }
 {
+    let x = stretch_of(s.x);
+    let y = stretch_of(s.y);
+    let z = stretch_of(s.z);
     let enter = alpha_min(x, y, z);
     let leave = alpha_max(x, y, z);
     if all(x.held, y.held, z.held) {
@@ -95,16 +97,6 @@ fn joined(x: Stretch, y: Stretch, z: Stretch) -> Crossing
         }
     }
     Crossing::Miss
-}
-
-fn through(s: Scene) -> Crossing
-    requires { ⌜ Able s ⌝ }
-    ensures { λ r. ⌜ r ≡ throughOf s ⌝ }
-{
-    let x = stretch_of(s.x);
-    let y = stretch_of(s.y);
-    let z = stretch_of(s.z);
-    joined(x, y, z)
 }
 
 pub fn across(m: Limits, g: Grid, r: Ray) -> Crossing

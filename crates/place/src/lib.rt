@@ -2,6 +2,7 @@
 pub mod call;
 mod coordinate;
 mod crossing;
+pub mod device;
 mod fraction;
 
 // The place call's answer: the code of a refusal; a miss; or αmin and αmax.

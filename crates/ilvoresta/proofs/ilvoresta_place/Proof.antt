@@ -19,10 +19,10 @@ same-length c = search needs
 
 returns : tie.Need-returns
 returns c =
-    let a = c .before .before .before .before .before .before .before .args in
-    let f = c .before .before .before .before .before .before .before .fits in
-    let g = c .before .before .before .before .before .grid-of .ensures ∙ grid-again (a .nx) (a .ny) (a .nz) (a .dx) (a .dy) (a .dz) (a .bx) (a .by) (a .bz) (f .bx) (f .by) (f .bz) in
-    let r = c .before .before .before .before .ray-of .ensures ∙ ray-again (a .px) (a .py) (a .pz) (a .qx) (a .qy) (a .qz) (f .px) (f .py) (f .pz) (f .qx) (f .qy) (f .qz) in
+    let k = c .before .before .before .before in
+    let f = k .before .before .before .fits in
+    let g = k .before .grid-of .ensures ∙ grid-again (f .bx) (f .by) (f .bz) in
+    let r = k .ray-of .ensures ∙ ray-again (f .px) (f .py) (f .pz) (f .qx) (f .qy) (f .qz) in
     rw (← g, ← r) (c .before .before .place-into .ensures)
 
 pub ilvoresta-place-spec : {M : Type 1} → statement M

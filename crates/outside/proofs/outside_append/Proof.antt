@@ -2,7 +2,7 @@
 use mathlib.Core.Path.{ap, _∙_}
 use Rattle.tracing.specs.declared.Trace.{Trace}
 use Rattle.ilvoresta.proofs.Again.{grid-again, ray-again}
-use Rattle.ilvoresta.proofs.Answered.{sixIn}
+use Rattle.ilvoresta.specs.Entry.{sixOf}
 use Rattle.outside.specs.Doors.{put, Appended}
 use borrow.Author.Needs.{needs}
 use Rattle.outside.proofs.outside_append.Statement.{statement}
@@ -31,17 +31,18 @@ same-length-3 c = search needs
 
 returns : tie.Need-returns
 returns c =
-    let a = c .before .before .before .before .before .before .before .before .before .before .before .before .before .before .before .before .before .args in
-    let f = c .before .before .before .before .before .before .before .before .before .before .before .before .before .before .before .before .before .fits in
-    let g = c .before .before .before .before .before .before .before .before .before .before .before .before .grid-of .ensures ∙ grid-again (a .nx) (a .ny) (a .nz) (a .dx) (a .dy) (a .dz) (a .bx) (a .by) (a .bz) (f .bx) (f .by) (f .bz) in
-    let r = c .before .before .before .before .before .before .before .before .before .before .before .ray-of .ensures ∙ ray-again (a .px) (a .py) (a .pz) (a .qx) (a .qy) (a .qz) (f .px) (f .py) (f .pz) (f .qx) (f .qy) (f .qz) in
+    let k = c .before .before .before .before .before .before .before .before .before .before .before in
+    let s = k .before .before .before .before .before .before in
+    let f = s .fits in
+    let g = k .before .grid-of .ensures ∙ grid-again (f .bx) (f .by) (f .bz) in
+    let r = k .ray-of .ensures ∙ ray-again (f .px) (f .py) (f .pz) (f .qx) (f .qy) (f .qz) in
     let t = c .before .before .before .before .before .before .before .before .append .ensures in
     rw (← g, ← r)
     (record {
-      code-is = ap (λ (u : Trace). u .code) (t .0);
-      voxels-now = t .1 .0;
-      parts-now = t .1 .1;
-      answer-now = c .before .before .put-answer .ensures ∙ ap (λ (u : Trace). put (sixIn u) (a .answer .now)) (t .0);
+      code-is = ap (λ (u : Trace). u .code) (t .answer);
+      voxels-now = t .voxels-now;
+      parts-now = t .parts-now;
+      answer-now = c .before .before .put-answer .ensures ∙ ap (λ (u : Trace). put (sixOf u) (s .args .answer .now)) (t .answer);
     })
 
 pub outside-append-spec : {M : Type 1} → statement M

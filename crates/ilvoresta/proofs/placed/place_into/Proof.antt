@@ -26,20 +26,24 @@ put-two-requires-2 : tie.Need-put-two-requires-2
 put-two-requires-2 c κs = search needs
 
 returns : tie.Need-returns
-returns c = let a = c .before .before .before .before .before .args in unplaced (a .g) (a .r) (a .answer .now) _ (sym (c .before .a .given .1) ∙ c .before .before .before .place .ensures .0)
+returns c = unplaced _ (sym (c .before .a .given .1) ∙ c .before .before .before .place .ensures .0)
 
 same-length : tie.Need-same-length
 same-length c = search needs
 
 returns-2 : tie.Need-returns-2
 unfolding ofBits ofFields odd
-returns-2 c = let a = c .before .before .before .before .before .before .before .before .args in placed (a .g) (a .r) (a .answer .now) Miss _ _ refl (sym (c .before .before .before .before .enum-told .given .1) ∙ c .before .before .before .before .before .before .place .ensures .0) (c .before .before .put-two .ensures .0) (c .before .before .put-two .ensures .1)
+returns-2 c =
+    let two = c .before .before .put-two .ensures in
+    placed Miss refl (sym (c .before .before .before .before .enum-told .given .1) ∙ c .before .before .before .before .before .before .place .ensures .0) (two .0) (two .1)
 
 same-length-2 : tie.Need-same-length-2
 same-length-2 c = search needs
 
 returns-3 : tie.Need-returns-3
-returns-3 c = let a = c .before .before .before .before .before .before .before .before .before .args in placed (a .g) (a .r) (a .answer .now) (Hit _ _) _ _ refl (sym (c .before .before .before .before .before .a2 .given .1) ∙ c .before .before .before .before .before .before .before .place .ensures .0) (c .before .before .put-two2 .ensures .0) (c .before .before .put-two2 .ensures .1)
+returns-3 c =
+    let two = c .before .before .put-two2 .ensures in
+    placed (Hit _ _) refl (sym (c .before .before .before .before .before .a2 .given .1) ∙ c .before .before .before .before .before .before .before .place .ensures .0) (two .0) (two .1)
 
 pub place-into-spec : {M : Type 1} → statement M
 place-into-spec =

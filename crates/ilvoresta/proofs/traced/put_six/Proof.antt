@@ -1,7 +1,7 @@
 -- `traced::put_six` meets its contract. Assumes nothing.
 use native.Mathlib.Omega.{arith}
 use lib.ListN.{length-set}
-use Rattle.ilvoresta.proofs.Answered.{sixIn}
+use Rattle.ilvoresta.specs.Entry.{sixOf}
 use Rattle.ilvoresta.proofs.Put.{all-put}
 use borrow.Author.Needs.{needs}
 use Rattle.ilvoresta.proofs.traced.put_six.Statement.{statement}
@@ -29,7 +29,7 @@ same-length : tie.Need-same-length
 same-length c = search needs
 
 returns : tie.Need-returns
-returns c = all-put (sixIn (c .args .t)) (c .args .answer .now) (c .pre)
+returns c = all-put (sixOf (c .args .t)) (c .args .answer .now) (c .pre)
 
 pub put-six-spec : {M : Type 1} → statement M
 put-six-spec =

@@ -1,5 +1,5 @@
 -- `traced::trace_into` meets its contract. Assumes nothing.
-use mathlib.Core.Path.{refl}
+use mathlib.Core.Path.{refl, sym, _∙_}
 use borrow.Author.Tests.{ne-eqb}
 use Rattle.ilvoresta.proofs.Answered.{untraced, other-length, traced}
 use borrow.Author.Needs.{needs}
@@ -10,16 +10,10 @@ code-of-requires : tie.Need-code-of-requires
 code-of-requires c κs = search needs
 
 returns : tie.Need-returns
-returns c =
-    let a = c .before .before .before .before .before .before .before .args in
-    let k = c .before .code-of in
-    untraced (a .g) (a .r) (a .densities .now) (a .voxels .now) (a .parts .now) (a .answer .now) (k .result) (k .ensures) (c .if2 .taken)
+returns c = untraced _ (c .before .code-of .ensures) (c .if2 .taken)
 
 returns-2 : tie.Need-returns-2
-returns-2 c =
-    let a = c .before .before .before .before .before .before .before .args in
-    let k = c .before .code-of in
-    other-length (a .g) (a .r) (a .densities .now) (a .voxels .now) (a .parts .now) (a .answer .now) (k .result) (k .ensures) (c .if2 .left) (c .before .before .if1 .taken)
+returns-2 c = other-length (sym (c .before .code-of .ensures) ∙ c .if2 .left) (c .before .before .if1 .taken)
 
 trace-requires : tie.Need-trace-requires
 trace-requires c κs = search needs
@@ -38,9 +32,8 @@ same-length-3 c = search needs
 
 returns-3 : tie.Need-returns-3
 returns-3 c =
-    let a = c .before .before .before .before .before .before .before .before .before .before .before .before .before .before .before .before .before .before .args in
-    let t = c .before .before .before .before .before .before .before .before .before .before .trace in
-    traced (a .g) (a .r) (a .densities .now) (a .voxels .now) (a .parts .now) (a .answer .now) (t .result) _ _ _ (c .before .before .before .before .before .before .before .before .before .before .before .before .before .if1 .left) (t .ensures .0) (t .ensures .1 .0) (t .ensures .1 .1) (rw (c .before .before .before .before .if3 .taken) (c .before .before .put-six .ensures))
+    let k = c .before .before .before .before .before .before .before .before .before .before in
+    traced (k .trace .ensures) (k .before .before .before .if1 .left) (rw (c .before .before .before .before .if3 .taken) (c .before .before .put-six .ensures))
 
 same-length-4 : tie.Need-same-length-4
 same-length-4 c = search needs
@@ -50,9 +43,8 @@ same-length-5 c = search needs
 
 returns-4 : tie.Need-returns-4
 returns-4 c =
-    let a = c .before .before .before .before .before .before .before .before .before .before .before .before .before .before .args in
-    let t = c .before .before .before .before .before .before .trace in
-    traced (a .g) (a .r) (a .densities .now) (a .voxels .now) (a .parts .now) (a .answer .now) (t .result) _ _ _ (c .before .before .before .before .before .before .before .before .before .if1 .left) (t .ensures .0) (t .ensures .1 .0) (t .ensures .1 .1) (rw (ne-eqb (t .result .code) 0 (c .if3 .left)) refl)
+    let k = c .before .before .before .before .before .before in
+    traced (k .trace .ensures) (k .before .before .before .if1 .left) (rw (ne-eqb _ 0 (c .if3 .left)) refl)
 
 pub trace-into-spec : {M : Type 1} → statement M
 trace-into-spec =

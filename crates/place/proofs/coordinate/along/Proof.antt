@@ -1,12 +1,12 @@
 -- `coordinate::along` meets its contract. Assumes nothing.
 use native.Mathlib.Omega.{arith}
-use Prim.Native.Nat.{_*_, _^_, _≤_}
+use Prim.Native.Nat.{_^_, _≤_}
 use Rattle.place.proofs.Within.{spot, spot-short}
 use borrow.Author.Needs.{needs}
 use Rattle.place.proofs.coordinate.along.Statement.{statement}
 use Rattle.place.proofs.coordinate.along.Tie as tie
 
-size : (c : tie.After-struct-known) → let a = c .before .args in spot (a .p) (a .q) (a .f .num) (a .f .den) ≤ 2 ^ 20 * 2 ^ 20
+size : (c : tie.After-struct-known) → let a = c .before .args in spot (a .p) (a .q) (a .f .num) (a .f .den) ≤ 2 ^ 40
 size c = let s = c .before in spot-short (s .args .p) (s .args .q) (s .args .f) (s .pre .0 .0) (s .pre .0 .1) (s .pre .1)
 
 sub-result : tie.Need-sub-result

@@ -2,7 +2,6 @@
 use native.Mathlib.Omega.{arith}
 use Prim.Native.Nat.{ℕ, _*_, _^_, _≤_}
 use mathlib.Core.Path.{_≡_, sym, ap, _∙_}
-use native.Mathlib.Nat.{mul-le-mul}
 use lib.IntN.{ℤ, pos, negsuc, natAbs, _-ℤ_}
 use mir.Syntax.{w32, w64}
 use mir.Val.{SFits, toZ, ofZ}
@@ -10,6 +9,7 @@ use mir.ValLaws.{toZ-ofZ, toZ-pos}
 use Rattle.axis.specs.Leg.{Leg}
 use Rattle.axis.proofs.Shift.{shift}
 use Rattle.axis.proofs.Bounds.{inside-most}
+use Rattle.line.proofs.Sizes.{two-sizes}
 use Rattle.place.specs.declared.fraction.Fraction.{Fraction}
 use Rattle.place.specs.Deciding.{OnRay}
 use Rattle.place.specs.Answers.{nearest}
@@ -57,11 +57,11 @@ module _ (c : tie.After-raised2) where
   abbrev v : ℕ
   v = spot (shift k (leg .p)) (shift k (leg .q)) (f .num) (f .den)
 
-  v-most : v ≤ 2 ^ 20 * 2 ^ 20
+  v-most : v ≤ 2 ^ 40
   v-most = spot-short (shift k (leg .p)) (shift k (leg .q)) f p-most q-most on-ray
 
-  by-most : k * f .den ≤ 2 ^ 20 * 2 ^ 20
-  by-most = mul-le-mul {n₂ = 2 ^ 20} {m₂ = 2 ^ 20} (omega (arith, room)) (on-ray .short .1)
+  by-most : k * f .den ≤ 2 ^ 40
+  by-most = two-sizes (omega (arith, room)) (on-ray .short .1)
 
   abbrev z : ℤ
   z = pos v -ℤ pos (k * f .den)

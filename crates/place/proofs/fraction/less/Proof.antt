@@ -1,15 +1,15 @@
 -- `fraction::less` meets its contract. Assumes nothing.
 use native.Mathlib.Omega.{arith}
-use Rattle.place.proofs.Deciding.{product}
+use Rattle.line.proofs.Sizes.{two-sizes}
 use borrow.Author.Needs.{needs}
 use Rattle.place.proofs.fraction.less.Statement.{statement}
 use Rattle.place.proofs.fraction.less.Tie as tie
 
 mul-result : tie.Need-mul-result
-mul-result c = let s = c .before .before in omega (arith, product (s .args .a) (s .args .b) (s .pre .0) (s .pre .1))
+mul-result c = let s = c .before .before in omega (arith, two-sizes (s .pre .0 .0) (s .pre .1 .1))
 
 mul-result-2 : tie.Need-mul-result-2
-mul-result-2 c = let s = c .before .before .before .before in omega (arith, product (s .args .b) (s .args .a) (s .pre .1) (s .pre .0))
+mul-result-2 c = let s = c .before .before .before .before in omega (arith, two-sizes (s .pre .1 .0) (s .pre .0 .1))
 
 returns : tie.Need-returns
 returns c = search needs

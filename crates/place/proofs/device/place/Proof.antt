@@ -1,9 +1,9 @@
--- `call::place` meets its contract. Assumes nothing.
+-- `device::place` meets its contract. Assumes nothing.
 use mathlib.Core.Path.{_≡_, sym, ap, _∙_}
-use Rattle.axis.specs.Codes.{tenths}
+use Rattle.axis.specs.declared.Limits.{Limits}
 use Rattle.ray.specs.declared.Grid.{Grid}
 use Rattle.ray.specs.declared.Ray.{Ray}
-use Rattle.line.proofs.Tenths.{tenths-small}
+use Rattle.line.specs.Raised.{Small}
 use Rattle.place.specs.declared.fraction.Fraction.{Fraction}
 use Rattle.place.specs.declared.crossing.Crossing.{Crossing}
 use Rattle.place.specs.declared.crossing.Crossing.the-variants.{Miss, Through}
@@ -12,24 +12,30 @@ use Rattle.place.proofs.Found.{Hit, hit}
 use Rattle.place.proofs.Placed.{placed, enter-on, leave-on, place-is}
 use Rattle.place.proofs.Told.{told-is}
 use borrow.Author.Needs.{needs}
-use Rattle.place.proofs.call.place.Statement.{statement}
-use Rattle.place.proofs.call.place.Tie as tie
+use Rattle.place.proofs.device.place.Statement.{statement}
+use Rattle.place.proofs.device.place.Tie as tie
 
 -- what was found, and the answer that follows
 module _ (c : tie.After-across) where
+  abbrev m : Limits
+  m = c .before .args .m
+
+  small : Small m
+  small = c .before .pre
+
   abbrev g : Grid
   g = c .before .args .g
 
   abbrev r : Ray
   r = c .before .args .r
 
-  answer : (k : Crossing) → c .across .result ≡ k → (placed k ≡ placeOf tenths g r) × (told (placed k) ≡ toldOf tenths g r)
+  answer : (k : Crossing) → c .across .result ≡ k → (placed k ≡ placeOf m g r) × (told (placed k) ≡ toldOf m g r)
   answer k h =
-      let e = ap placed (sym h ∙ c .across .ensures) ∙ place-is tenths g r tenths-small in
-      (e, ap told e ∙ told-is tenths g r)
+      let e = ap placed (sym h ∙ c .across .ensures) ∙ place-is m g r small in
+      (e, ap told e ∙ told-is m g r)
 
-  hits : (e l : Fraction) → c .across .result ≡ Through e l → Hit tenths g r e l
-  hits e l h = hit tenths g r tenths-small e l (sym (c .across .ensures) ∙ h)
+  hits : (e l : Fraction) → c .across .result ≡ Through e l → Hit m g r e l
+  hits e l h = hit m g r small e l (sym (c .across .ensures) ∙ h)
 
 across-requires : tie.Need-across-requires
 across-requires c κs = search needs

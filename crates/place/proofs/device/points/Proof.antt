@@ -1,9 +1,9 @@
--- `call::points` meets its contract. Assumes nothing.
+-- `device::points` meets its contract. Assumes nothing.
 use mathlib.Core.Path.{_≡_, refl, sym, ap, _∙_}
-use Rattle.axis.specs.Codes.{tenths}
+use Rattle.axis.specs.declared.Limits.{Limits}
 use Rattle.ray.specs.declared.Grid.{Grid}
 use Rattle.ray.specs.declared.Ray.{Ray}
-use Rattle.line.proofs.Tenths.{tenths-small}
+use Rattle.line.specs.Raised.{Small}
 use Rattle.place.specs.declared.Points.{Points}
 use Rattle.place.specs.declared.fraction.Fraction.{Fraction}
 use Rattle.place.specs.declared.crossing.Crossing.{Crossing}
@@ -14,24 +14,30 @@ use Rattle.place.proofs.Placed.{enter-on, leave-on}
 use Rattle.place.proofs.Pointed.{pointed, points-is}
 use Rattle.place.proofs.Told.{mark-is}
 use borrow.Author.Needs.{needs}
-use Rattle.place.proofs.call.points.Statement.{statement}
-use Rattle.place.proofs.call.points.Tie as tie
+use Rattle.place.proofs.device.points.Statement.{statement}
+use Rattle.place.proofs.device.points.Tie as tie
 
 -- what was found, and the answer that follows
 module _ (c : tie.After-across) where
+  abbrev m : Limits
+  m = c .before .args .m
+
+  small : Small m
+  small = c .before .pre
+
   abbrev g : Grid
   g = c .before .args .g
 
   abbrev r : Ray
   r = c .before .args .r
 
-  answer : (k : Crossing) (a : Points) → c .across .result ≡ k → a ≡ pointed r k → (a ≡ pointsOf tenths g r) × (markCode (a .mark) ≡ refusalOf tenths g r)
+  answer : (k : Crossing) (a : Points) → c .across .result ≡ k → a ≡ pointed r k → (a ≡ pointsOf m g r) × (markCode (a .mark) ≡ refusalOf m g r)
   answer k a h p =
-      let e = p ∙ ap (pointed r) (sym h ∙ c .across .ensures) ∙ points-is tenths g r tenths-small in
-      (e, ap (λ (x : Points). markCode (x .mark)) e ∙ mark-is tenths g r)
+      let e = p ∙ ap (pointed r) (sym h ∙ c .across .ensures) ∙ points-is m g r small in
+      (e, ap (λ (x : Points). markCode (x .mark)) e ∙ mark-is m g r)
 
-  hits : (e l : Fraction) → c .across .result ≡ Through e l → Hit tenths g r e l
-  hits e l h = hit tenths g r tenths-small e l (sym (c .across .ensures) ∙ h)
+  hits : (e l : Fraction) → c .across .result ≡ Through e l → Hit m g r e l
+  hits e l h = hit m g r small e l (sym (c .across .ensures) ∙ h)
 
 across-requires : tie.Need-across-requires
 across-requires c κs = search needs
@@ -52,10 +58,10 @@ enum-known-c-2 : tie.Need-enum-known-c-2
 enum-known-c-2 c = search needs
 
 point-at-requires : tie.Need-point-at-requires
-point-at-requires c κs = let H = hits (c .before .before .before) _ _ (c .before .c2 .given .1) in (tenths-small, (H .ok .ends, enter-on H))
+point-at-requires c κs = let k = c .before .before .before in let H = hits k _ _ (c .before .c2 .given .1) in (small k, (H .ok .ends, enter-on H))
 
 point-at-requires-2 : tie.Need-point-at-requires-2
-point-at-requires-2 c κs = let H = hits (c .before .before .before .before) _ _ (c .before .before .c2 .given .1) in (tenths-small, (H .ok .ends, leave-on H))
+point-at-requires-2 c κs = let k = c .before .before .before .before in let H = hits k _ _ (c .before .before .c2 .given .1) in (small k, (H .ok .ends, leave-on H))
 
 returns : tie.Need-returns
 returns c = answer (c .before .before .before .before) _ _ (c .before .before .c .given .1) (c .unplaced .ensures)

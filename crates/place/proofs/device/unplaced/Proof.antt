@@ -1,8 +1,8 @@
--- `call::unplaced` meets its contract. Assumes nothing.
+-- `device::unplaced` meets its contract. Assumes nothing.
 use mathlib.Core.Path.{refl}
 use lib.Ieee.{odd, ofFields, ofBits}
-use Rattle.place.proofs.call.unplaced.Statement.{statement}
-use Rattle.place.proofs.call.unplaced.Tie as tie
+use Rattle.place.proofs.device.unplaced.Statement.{statement}
+use Rattle.place.proofs.device.unplaced.Tie as tie
 
 returns : tie.Need-returns
 unfolding ofBits ofFields odd
