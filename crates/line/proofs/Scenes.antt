@@ -7,7 +7,7 @@ use borrow.Author.Tests.{le-leb}
 use Rattle.axis.proofs.Flag.{and-left, and-right}
 use Rattle.ray.proofs.Planes.{Rise}
 use Rattle.ray.specs.declared.Ray.{Ray}
-use Rattle.ray.specs.Length.{Side, X, Y, Z, leg, rest, Volume, index, voxel, holds, start, stop, partOf}
+use Rattle.ray.specs.Length.{Side, X, Y, Z, leg, rest, Volume, array, index, voxel, holds, start, stop, partOf}
 use Rattle.line.specs.declared.scene.Scene.{Scene}
 use Rattle.line.specs.Scene.{legN, plane, line, volumeOf, rayOf, entersAt, leavesAt, heldAt}
 use Rattle.ray.proofs.Way.{Way}
@@ -35,6 +35,13 @@ module _ (s : Scene) where
 
   pub scene-rise : Rise vol
   scene-rise o i h = le-leb (plane (line s o) i) (plane (line s o) (i + 1)) (plane-mono (line s o) (omega arith))
+
+  -- the ticks of αmin and αmax
+  abbrev pub fromOf : ℕ
+  fromOf = start ray (array vol)
+
+  abbrev pub toOf : ℕ
+  toOf = stop ray (array vol)
 
   -- where the ray comes in and goes out between two planes of an axis, in ticks; start and stop are the greatest and the least of these
   abbrev pub enter : Side → ℕ → ℕ → ℕ

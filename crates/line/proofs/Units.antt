@@ -101,11 +101,6 @@ held-within up p a b h = tt
 held-within down p a b h = tt
 held-within still p a b h = (omega (arith, h .0), omega (arith, h .1))
 
-pub held-moving : (w : Way) (p lo hi : ℕ) → (w ≡ still → ⊥) → HeldBy w p lo hi
-held-moving up p lo hi h = tt
-held-moving down p lo hi h = tt
-held-moving still p lo hi h = absurd (h refl)
-
 -- two stretches with no place in common: the ray is out of one before it is in the other
 pub apart : (w : Way) (p : ℕ) {lo hi lo′ hi′ : ℕ} → lo < hi → lo′ < hi′ → hi ≤ lo′ → HeldBy w p lo hi → HeldBy w p lo′ hi′
     → (leaveBy w p lo hi ≤ enterBy w p lo′ hi′) ⊎ (leaveBy w p lo′ hi′ ≤ enterBy w p lo hi)

@@ -9,7 +9,7 @@ use lib.IntN.{pos}
 use lib.ListN.{length}
 use Rattle.axis.specs.Leg.{moving, run}
 use Rattle.axis.proofs.Flag.{off-or-on}
-use Rattle.ray.specs.Length.{Side, rest, dOf, array, start, stop}
+use Rattle.ray.specs.Length.{Side, rest, dOf}
 use Rattle.ray.proofs.Different.{alphaOf, crossedAt, crosses-means, means-crosses, crossed-yes, crossed-no, crossed-until}
 use Rattle.ray.proofs.After.{after, none-after, one-after}
 use Rattle.line.specs.declared.line.Line.{Line}
@@ -17,9 +17,9 @@ use Rattle.line.specs.declared.scene.Scene.{Scene}
 use Rattle.line.specs.Scene.{legN, plane, line, Able, leavesAt, Within}
 use Rattle.line.proofs.Units.{moves, stays, run-up, run-down}
 use Rattle.line.proofs.Three.{least-le, least-one}
-use Rattle.line.proofs.Stretch.{going, enter-voxel, leave-voxel}
+use Rattle.line.proofs.Stretch.{going, enter-voxel, leave-voxel, Left}
 use Rattle.line.proofs.Crossing.{up-rise, down-fall}
-use Rattle.line.proofs.Scenes.{vol, ray, way, leg-is, leave}
+use Rattle.line.proofs.Scenes.{vol, ray, way, leg-is, leave, fromOf, toOf}
 use Rattle.walk.specs.declared.steps.Walk.{Walk}
 use Rattle.walk.specs.declared.steps.Strides.{Strides}
 use Rattle.walk.specs.Model.{leaveOf, soonest, entries, Forward}
@@ -45,10 +45,10 @@ module _ (a : Line) (c : ℕ) where
   tick m = run (legN (a .p) (a .q)) (pos (plane a m)) * c
 
   -- the plane by which a moving axis leaves a voxel is met there
-  left-by : (w : Way) (i : ℕ) → Goes w (a .p) (a .q) → (w ≡ still → ⊥) → (moving (legN (a .p) (a .q)) ≡ true) × (tick (far w i) ≡ leavesAt a c i (i + 1))
+  left-by : (w : Way) (i : ℕ) → Goes w (a .p) (a .q) → Left w i → (moving (legN (a .p) (a .q)) ≡ true) × (tick (far w i) ≡ leavesAt a c i (i + 1))
   left-by up i g m = (moves (a .p) (a .q) (λ e. omega arith), ap (λ (x : ℕ). x * c) (run-up (a .p) (a .q) (plane a (i + 1)) g) ∙ sym (leave-voxel a c up g i))
   left-by down i g m = (moves (a .p) (a .q) (λ e. omega arith), ap (λ (x : ℕ). x * c) (run-down (a .p) (a .q) (plane a i) g) ∙ sym (leave-voxel a c down g i))
-  left-by still i g m = absurd (m refl)
+  left-by still i g m = absurd m
 
   -- a plane that is met after the ray came into a voxel is not met before the ray leaves it
   not-before : (w : Way) (i m t : ℕ) → Goes w (a .p) (a .q) → moving (legN (a .p) (a .q)) ≡ true → Within a c t i → t < tick m → leavesAt a c i (i + 1) ≤ tick m
@@ -64,7 +64,7 @@ module _ (a : Line) (c : ℕ) where
 
 module _ {s : Scene} (able : Able s) where
   abbrev to : ℕ
-  to = stop (ray s) (array (vol s))
+  to = toOf s
 
   abbrev crossed : ℕ → Bool
   crossed = crossedAt (vol s) (ray s)
@@ -84,7 +84,7 @@ module _ {s : Scene} (able : Able s) where
     last-quiet : to ≤ soonest w → (x : ℕ) → w .t < x → crossed x ≡ false
     last-quiet h x a = elim (decLt x (soonest w)) [ yes b ↦ quiet x a b | no b ↦ crossed-until (vol s) (ray s) x (omega arith) ]
 
-    since-start : start (ray s) (array (vol s)) ≤ w .t
+    since-start : fromOf s ≤ w .t
     since-start = omega (arith, start-late s (number (vol s) at) (here-below able on), here-start able on)
 
     end-crossed : {t : Strides} → Paced s t → soonest w < to → crossed (soonest w) ≡ true
@@ -92,7 +92,7 @@ module _ {s : Scene} (able : Able s) where
         let o : Side = least-one (leaveOf w) .0 in
         let u : leaveOf w o ≡ soonest w = least-one (leaveOf w) .1 in
         let i : ℕ = far (way s o) (at o) in
-        let m = left-by (line s o) (rest (ray s) o) (way s o) (at o) (going (line s o)) (next-at able on paced more o u .left .moves) in
+        let m = left-by (line s o) (rest (ray s) o) (way s o) (at o) (going (line s o)) (next-at able on paced more o u .left) in
         let e : alphaOf (vol s) (ray s) o i ≡ soonest w = alpha-is o i ∙ m .1 ∙ sym (on .leaves o) ∙ u in
         crossed-yes (vol s) (ray s) (soonest w) o i (far-inside (way s o) (at o) (line s o .n) (on .within o .inside))
         (means-crosses (vol s) (ray s) o i (rw (leg-is s o) (m .0)) (omega (arith, since-start, soon-later able on)) (omega arith)) e

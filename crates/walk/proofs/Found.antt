@@ -5,13 +5,13 @@ use mathlib.Core.Path.{_≡_, refl, sym, subst}
 use mathlib.Core.List.{List, [], _∷_, _++_, map, sum, append-assoc}
 use native.Mathlib.Omega.{arith}
 use native.Mathlib.Decide.{decLe}
-use Rattle.ray.specs.Length.{Side, count, array, start, stop, partOf, listOf}
+use Rattle.ray.specs.Length.{Side, count, partOf, listOf}
 use Rattle.ray.proofs.Apart.{starts-apart}
 use Rattle.ray.proofs.Total.{sumList}
 use Rattle.ray.proofs.Listing.{Listed, SoFar, starts, one-more, none-yet, all-found, list-is}
 use Rattle.line.specs.declared.scene.Scene.{Scene}
 use Rattle.line.specs.Scene.{Able}
-use Rattle.line.proofs.Scenes.{vol, ray, scene-rise, met}
+use Rattle.line.proofs.Scenes.{vol, ray, scene-rise, met, fromOf, toOf}
 use Rattle.walk.specs.declared.steps.Walk.{Walk}
 use Rattle.walk.specs.declared.steps.Strides.{Strides}
 use Rattle.walk.specs.Model.{soonest, stepped, Entry, entry, voxels, parts, entries, Forward}
@@ -28,7 +28,7 @@ adds-up to t u v x a b c d = omega arith
 
 module _ {s : Scene} (able : Able s) {t : Strides} (paced : Paced s t) where
   abbrev to : ℕ
-  to = stop (ray s) (array (vol s))
+  to = toOf s
 
   -- what holds of a last turn, and of a turn wherever it holds of what comes after, holds of a walk
   module _ (P : Walk → List Entry → Type 0)
@@ -73,7 +73,7 @@ module _ {s : Scene} (able : Able s) {t : Strides} (paced : Paced s t) where
         (rw append-assoc at (rest (vs ++ (number (vol s) at ∷ [])) (rw (step-tick t w) (one-found (soonest w) l (omega arith) (omega (arith, part-more able on h)) vs so))))
 
   module _ {w : Walk} {at : Side → ℕ} (on : Walking s w at) (f : Forward t to w) where
-    pub found-list : w .t ≡ start (ray s) (array (vol s)) → voxels (entries t to w) ≡ listOf (vol s) (ray s)
+    pub found-list : w .t ≡ fromOf s → voxels (entries t to w) ≡ listOf (vol s) (ray s)
     found-list e =
         list-is (vol s) (ray s) (starts-apart (vol s) (scene-rise s) (ray s)) (voxels (entries t to w))
         (walk-all (λ w es. (vs : List ℕ) → Until (w .t) vs → Ends (vs ++ voxels es)) list-last list-more on f [] (none-yet _ _ _ (w .t) (λ m i p. omega (arith, start-late s m i))))

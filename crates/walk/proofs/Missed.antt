@@ -4,12 +4,12 @@ use mathlib.Core.Path.{_≡_, refl}
 use mathlib.Core.Bool.{true, false}
 use native.Mathlib.Omega.{arith}
 use borrow.Author.Tests.{lt-leb}
-use Rattle.ray.specs.Length.{Side, X, Y, Z, count, array, index, start, stop, partOf, misses}
+use Rattle.ray.specs.Length.{Side, X, Y, Z, count, index, partOf, misses}
 use Rattle.ray.proofs.Indices.{index-below}
 use Rattle.line.specs.declared.scene.Scene.{Scene}
 use Rattle.line.specs.Scene.{line, volumeOf, rayOf, heldAt}
 use Rattle.line.proofs.Stretch.{held-whole}
-use Rattle.line.proofs.Scenes.{met}
+use Rattle.line.proofs.Scenes.{met, fromOf, toOf}
 use Rattle.walk.proofs.Walking.{start-late, stop-soon}
 
 module _ (s : Scene) (m : ℕ) (h : m < count (volumeOf s)) (p : 0 < partOf (volumeOf s) (rayOf s) m) where
@@ -21,5 +21,5 @@ module _ (s : Scene) (m : ℕ) (h : m < count (volumeOf s)) (p : 0 < partOf (vol
   unfolding misses
   part-hits =
       let k = met s m p .proper in
-      let proper : start (rayOf s) (array (volumeOf s)) < stop (rayOf s) (array (volumeOf s)) = omega (arith, start-late s m h, stop-soon s m h) in
-      rw (lt-leb (stop (rayOf s) (array (volumeOf s))) (start (rayOf s) (array (volumeOf s))) proper, held X, held Y, held Z) refl
+      let proper : fromOf s < toOf s = omega (arith, start-late s m h, stop-soon s m h) in
+      rw (lt-leb (toOf s) (fromOf s) proper, held X, held Y, held Z) refl

@@ -9,7 +9,7 @@ use borrow.Author.Tests.{leb-false, not-true, not-false}
 use lib.Dec.{leb}
 use Rattle.axis.specs.Leg.{factor}
 use Rattle.axis.proofs.Flag.{or-left, or-right}
-use Rattle.ray.specs.Length.{Side, X, Y, Z, leg, rest, dOf, array, holds, start, stop, misses, partOf, crosses, crossedOf}
+use Rattle.ray.specs.Length.{Side, X, Y, Z, leg, rest, dOf, array, holds, misses, partOf, crosses, crossedOf}
 use Rattle.ray.proofs.Capped.{rest-pos}
 use Rattle.ray.proofs.Way.{Way, up, down, still, Goes}
 use Rattle.line.specs.declared.line.Line.{Line}
@@ -20,7 +20,7 @@ use Rattle.line.proofs.Three.{each, most-le, le-most, least-le, most-mono}
 use Rattle.line.proofs.Stretch.{going, enter-whole}
 use Rattle.line.proofs.Steps.{stride}
 use Rattle.line.proofs.Sizes.{two-sizes, three-sizes, factor-size}
-use Rattle.line.proofs.Scenes.{way, leg-is, enter, leave, all-held}
+use Rattle.line.proofs.Scenes.{way, leg-is, enter, leave, all-held, fromOf, toOf}
 use Rattle.walk.specs.declared.steps.Walk.{Walk}
 use Rattle.walk.specs.declared.steps.Strides.{Strides}
 use Rattle.walk.specs.declared.plan.Frame.{Frame}
@@ -63,15 +63,15 @@ module _ {s : Scene} (able : Able s) where
     step-few o = three-sizes (able .sized o .d-size) (few o)
 
     module _ (hit : f .hit ≡ true) where
-      missed-not : (leb (stop (rayOf s) (array (volumeOf s))) (start (rayOf s) (array (volumeOf s))) || not (holds (rayOf s) (array (volumeOf s)))) ≡ false
+      missed-not : (leb (toOf s) (fromOf s) || not (holds (rayOf s) (array (volumeOf s)))) ≡ false
       unfolding misses
       missed-not = not-true _ (sym (framed .hit-is) ∙ hit)
 
       pub proper : f .from < f .to
-      proper = rw (framed .from-is, framed .to-is) (leb-false _ _ (or-left (leb (stop (rayOf s) (array (volumeOf s))) (start (rayOf s) (array (volumeOf s)))) _ missed-not))
+      proper = rw (framed .from-is, framed .to-is) (leb-false _ _ (or-left (leb (toOf s) (fromOf s)) _ missed-not))
 
       held-all : holds (rayOf s) (array (volumeOf s)) ≡ true
-      held-all = not-false _ (or-right (leb (stop (rayOf s) (array (volumeOf s))) (start (rayOf s) (array (volumeOf s)))) _ missed-not)
+      held-all = not-false _ (or-right (leb (toOf s) (fromOf s)) _ missed-not)
 
       -- a tick of the window is one on every axis
       pub windows : (o : Side) (t : ℕ) → f .from ≤ t → t < f .to → Window (line s o) (restOf f o) t
@@ -124,7 +124,7 @@ module _ {s : Scene} (able : Able s) where
 
           pub planned : (crossed : ℕ) → crossed ≡ crossedOf (volumeOf s) (rayOf s) → Planned s (f .to) (record { walk = w; strides = t; crossed = crossed })
           planned crossed e =
-              let f′ : Forward t (stop (rayOf s) (array (volumeOf s))) w = rw (framed .to-is) at forward in
+              let f′ : Forward t (toOf s) w = rw (framed .to-is) at forward in
               let vs = found-list able paced walking f′ (begun .tick ∙ framed .from-is) in
               record {
                 forward = forward;

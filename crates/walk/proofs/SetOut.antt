@@ -6,7 +6,7 @@ use mathlib.Core.Bool.{true, false, not, cond}
 use native.Mathlib.Omega.{arith}
 use lib.Dec.{ltb}
 use borrow.Author.Tests.{lt-ltb, le-ltb}
-use Rattle.ray.specs.Length.{Side, X, Y, Z, rest, dOf, array, start, stop, misses, crossedOf}
+use Rattle.ray.specs.Length.{Side, X, Y, Z, rest, dOf, misses, crossedOf}
 use Rattle.line.specs.declared.scene.Scene.{Scene}
 use Rattle.line.specs.Scene.{line, volumeOf, rayOf, Able, leavesAt, Within}
 use Rattle.line.specs.Reach.{crossedOn}
@@ -15,7 +15,7 @@ use Rattle.line.proofs.Stretch.{going}
 use Rattle.line.proofs.Steps.{indexBy, index-within}
 use Rattle.line.proofs.Sizes.{leave-ticks}
 use Rattle.line.proofs.Crossing.{crossed-is}
-use Rattle.line.proofs.Scenes.{way}
+use Rattle.line.proofs.Scenes.{way, fromOf, toOf}
 use Rattle.walk.specs.declared.steps.Walk.{Walk}
 use Rattle.walk.specs.declared.steps.Strides.{Strides}
 use Rattle.walk.specs.declared.plan.Frame.{Frame}
@@ -30,8 +30,8 @@ pub record SetOut (s : Scene) : Type 0 where
   pub strides : Strides
   pub on : Walking s walk at
   pub pace : Paced s strides
-  pub ahead : Forward strides (stop (rayOf s) (array (volumeOf s))) walk
-  pub tick : walk .t ≡ start (rayOf s) (array (volumeOf s))
+  pub ahead : Forward strides (toOf s) walk
+  pub tick : walk .t ≡ fromOf s
 
 -- the definitions themselves make a frame
 abbrev frame : Scene → Frame
@@ -40,8 +40,8 @@ frame s = record {
   cy = rest (rayOf s) Y;
   cz = rest (rayOf s) Z;
   denominator = dOf (rayOf s);
-  from = start (rayOf s) (array (volumeOf s));
-  to = stop (rayOf s) (array (volumeOf s));
+  from = fromOf s;
+  to = toOf s;
   hit = not (misses (volumeOf s) (rayOf s));
 }
 

@@ -7,13 +7,13 @@ use native.Mathlib.Omega.{arith}
 use native.Mathlib.Nat.{le-antisymm, le-of-eq, le-trans, lt-of-lt-of-le, lt-of-le-of-lt, mod-eq-of-lt}
 use lib.Dec.{eqb}
 use borrow.Author.Tests.{eq-eqb, eqb-true, eqb-false}
-use Rattle.ray.specs.Length.{Side, rest, dOf, count, array, index, voxel, start, stop, partOf}
+use Rattle.ray.specs.Length.{Side, rest, dOf, count, index, voxel, start, stop, partOf}
 use Rattle.ray.proofs.Indices.{number, index-number, number-below, index-below, index-same}
 use Rattle.line.specs.declared.scene.Scene.{Scene}
 use Rattle.line.specs.Scene.{line, Able, Within}
 use Rattle.line.proofs.Three.{most, least, most-le, le-most, least-le, least-one, lt-least, least-mono, most-mono, most-same, least-same}
 use Rattle.line.proofs.Stretch.{onward, Left, Next, next as next-voxel, enter-whole, leave-whole, one-voxel}
-use Rattle.line.proofs.Scenes.{vol, ray, way, enter, leave, Held, met, part-met}
+use Rattle.line.proofs.Scenes.{vol, ray, way, enter, leave, Held, met, part-met, fromOf, toOf}
 use Rattle.walk.specs.declared.steps.Walk.{Walk}
 use Rattle.walk.specs.declared.steps.Strides.{Strides}
 use Rattle.walk.specs.Model.{leaveOf, stepOf, jumpOf, soonest, next, stepped}
@@ -44,11 +44,11 @@ cut-le d l = omega arith
 
 module _ (s : Scene) (m : ℕ) (h : m < count (vol s)) where
   -- every voxel's stretch lies within the array's
-  pub start-late : start (ray s) (array (vol s)) ≤ start (ray s) (voxel (vol s) m)
+  pub start-late : fromOf s ≤ start (ray s) (voxel (vol s) m)
   start-late = most-mono (λ o. enter s o 0 (line s o .n)) (λ o. enter s o (index (vol s) m o) (index (vol s) m o + 1))
       (λ o. enter-whole (line s o) (rest (ray s) o) (index (vol s) m o) (index-below (vol s) m h o))
 
-  pub stop-soon : stop (ray s) (voxel (vol s) m) ≤ stop (ray s) (array (vol s))
+  pub stop-soon : stop (ray s) (voxel (vol s) m) ≤ toOf s
   stop-soon = both (dOf (ray s)) _ _
       (least-mono (λ o. leave s o (index (vol s) m o) (index (vol s) m o + 1)) (λ o. leave s o 0 (line s o .n))
       (λ o. leave-whole (line s o) (rest (ray s) o) (index (vol s) m o) (index-below (vol s) m h o)))
@@ -71,7 +71,7 @@ module _ {s : Scene} (able : Able s) {w : Walk} {at : Side → ℕ} (on : Walkin
   here = number (vol s) at
 
   abbrev to : ℕ
-  to = stop (ray s) (array (vol s))
+  to = toOf s
 
   inside : (o : Side) → at o < line s o .n
   inside o = on .within o .inside
