@@ -63,9 +63,6 @@ module _ (a : Line) (c : ℕ) where
   not-before still i m t g on v l = off-or-on (moving (legN (a .p) (a .q))) on (stays (a .p) (a .q) g)
 
 module _ {s : Scene} (able : Able s) where
-  abbrev to : ℕ
-  to = toOf s
-
   abbrev crossed : ℕ → Bool
   crossed = crossedAt (vol s) (ray s)
 
@@ -81,13 +78,13 @@ module _ {s : Scene} (able : Able s) where
         omega (arith, alpha-is o i, on .leaves o, least-le (leaveOf w) o))
 
     -- and after the last turn none
-    last-quiet : to ≤ soonest w → (x : ℕ) → w .t < x → crossed x ≡ false
+    last-quiet : toOf s ≤ soonest w → (x : ℕ) → w .t < x → crossed x ≡ false
     last-quiet h x a = elim (decLt x (soonest w)) [ yes b ↦ quiet x a b | no b ↦ crossed-until (vol s) (ray s) x (omega arith) ]
 
     since-start : fromOf s ≤ w .t
     since-start = omega (arith, start-late s (number (vol s) at) (here-below able on), here-start able on)
 
-    end-crossed : {t : Strides} → Paced s t → soonest w < to → crossed (soonest w) ≡ true
+    end-crossed : {t : Strides} → Paced s t → soonest w < toOf s → crossed (soonest w) ≡ true
     end-crossed paced more =
         let o : Side = least-one (leaveOf w) .0 in
         let u : leaveOf w o ≡ soonest w = least-one (leaveOf w) .1 in
@@ -97,8 +94,8 @@ module _ {s : Scene} (able : Able s) where
         crossed-yes (vol s) (ray s) (soonest w) o i (far-inside (way s o) (at o) (line s o .n) (on .within o .inside))
         (means-crosses (vol s) (ray s) o i (rw (leg-is s o) (m .0)) (omega (arith, since-start, soon-later able on)) (omega arith)) e
 
-  pub found-alphas : {t : Strides} (paced : Paced s t) {w : Walk} {at : Side → ℕ} → Walking s w at → Forward t to w
-      → length (entries t to w) ≡ 1 + after crossed (dOf (ray s)) (w .t)
+  pub found-alphas : {t : Strides} (paced : Paced s t) {w : Walk} {at : Side → ℕ} → Walking s w at → Forward t (toOf s) w
+      → length (entries t (toOf s) w) ≡ 1 + after crossed (dOf (ray s)) (w .t)
   found-alphas {t} paced =
       walk-all able paced (λ w es. length es ≡ 1 + after crossed (dOf (ray s)) (w .t))
       (λ w at on b h. omega (arith, none-after crossed (dOf (ray s)) (w .t) (last-quiet on h)))

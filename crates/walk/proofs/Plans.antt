@@ -133,9 +133,9 @@ module _ {s : Scene} (able : Able s) where
                 crossed-is = e;
               }
 
-pub crossed-all : {s : Scene} {f : Frame} (a b c : ℕ) → Framed s f → f .hit ≡ true
-    → a ≡ crossedOn (s .x) (f .cx) (f .from) (f .to) → b ≡ crossedOn (s .y) (f .cy) (f .from) (f .to) → c ≡ crossedOn (s .z) (f .cz) (f .from) (f .to)
-    → a + b + c ≡ crossedOf (volumeOf s) (rayOf s)
+-- the planes crossed, axis by axis
+pub crossed-all : {s : Scene} {f : Frame} (n : Side → ℕ) → Framed s f → f .hit ≡ true → ((o : Side) → n o ≡ crossedOn (line s o) (restOf f o) (f .from) (f .to))
+    → n X + n Y + n Z ≡ crossedOf (volumeOf s) (rayOf s)
 unfolding crosses crossedOf
-crossed-all {s} a b c framed hit ea eb ec =
-    rw (ea, eb, ec, framed .rests X, framed .rests Y, framed .rests Z, framed .from-is, framed .to-is, not-true (misses (volumeOf s) (rayOf s)) (sym (framed .hit-is) ∙ hit)) refl
+crossed-all {s} n framed hit e =
+    rw (e X, e Y, e Z, framed .rests X, framed .rests Y, framed .rests Z, framed .from-is, framed .to-is, not-true (misses (volumeOf s) (rayOf s)) (sym (framed .hit-is) ∙ hit)) refl

@@ -1,5 +1,6 @@
 -- Every scene that is hit has a walk, which sets out where the ray comes into the array. So what walks are known to give holds of
--- ray's definitions, with no walk in the statement. Assumes nothing.
+-- ray's definitions, with no walk in the statement; and on its way the ray crosses fewer planes of an axis than there are voxels.
+-- Assumes nothing.
 use Prim.Native.Nat.{ℕ, _+_, _-_, _*_, _^_, _≤_, _<_}
 use mathlib.Core.Path.{_≡_, refl}
 use mathlib.Core.Bool.{true, false, not, cond}
@@ -139,4 +140,4 @@ module _ {s : Scene} (able : Able s) where
         (crossed-is (line s o) (restOf (frame s) o) (able .sized o) (frame s .from) (frame s .to) _ _ (first-within o) last some)
 
     pub few-planes : crossedOf (volumeOf s) (rayOf s) + 3 ≤ s .x .n + s .y .n + s .z .n
-    few-planes = omega (arith, on-few X, on-few Y, on-few Z, crossed-all (on X) (on Y) (on Z) (framed s) hits refl refl refl)
+    few-planes = omega (arith, on-few X, on-few Y, on-few Z, crossed-all on (framed s) hits (λ o. refl))

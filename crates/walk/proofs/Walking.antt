@@ -6,14 +6,14 @@ use mathlib.Core.Bool.{Bool, true, false, cond}
 use native.Mathlib.Omega.{arith}
 use native.Mathlib.Nat.{le-antisymm, le-of-eq, le-trans, lt-of-lt-of-le, lt-of-le-of-lt, mod-eq-of-lt}
 use lib.Dec.{eqb}
-use borrow.Author.Tests.{eq-eqb, eqb-true, eqb-false}
-use Rattle.ray.specs.Length.{Side, rest, dOf, count, index, voxel, start, stop, partOf}
+use borrow.Author.Tests.{lt-leb, eq-eqb, eqb-true, eqb-false}
+use Rattle.ray.specs.Length.{Side, X, Y, Z, rest, dOf, count, index, voxel, start, stop, partOf, misses}
 use Rattle.ray.proofs.Indices.{number, index-number, number-below, index-below, index-same}
 use Rattle.line.specs.declared.scene.Scene.{Scene}
-use Rattle.line.specs.Scene.{line, Able, Within}
+use Rattle.line.specs.Scene.{line, Able, heldAt, Within}
 use Rattle.line.proofs.Three.{most, least, most-le, le-most, least-le, least-one, lt-least, least-mono, most-mono, most-same, least-same}
-use Rattle.line.proofs.Stretch.{onward, Left, Next, next as next-voxel, enter-whole, leave-whole, one-voxel}
-use Rattle.line.proofs.Scenes.{vol, ray, way, enter, leave, Held, met, part-met, fromOf, toOf}
+use Rattle.line.proofs.Stretch.{onward, Left, Next, next as next-voxel, enter-whole, leave-whole, held-whole, one-voxel}
+use Rattle.line.proofs.Scenes.{vol, ray, way, enter, leave, met, part-met, fromOf, toOf}
 use Rattle.walk.specs.declared.steps.Walk.{Walk}
 use Rattle.walk.specs.declared.steps.Strides.{Strides}
 use Rattle.walk.specs.Model.{leaveOf, stepOf, jumpOf, soonest, next, stepped}
@@ -65,13 +65,19 @@ module _ (s : Scene) (m : ℕ) (h : m < count (vol s)) where
     until = lt-of-lt-of-le (under-least (dOf (ray s)) t _ b) (least-le (λ x. leave s x (index (vol s) m x) (index (vol s) m x + 1)) o);
   }
 
+  -- and so a ray that has a part in it hits
+  pub part-hits : 0 < partOf (vol s) (ray s) m → misses (vol s) (ray s) ≡ false
+  unfolding misses
+  part-hits p =
+      let k = met s m p .proper in
+      let proper : fromOf s < toOf s = omega (arith, start-late, stop-soon) in
+      let held : (o : Side) → heldAt (line s o) 0 (line s o .n) ≡ true = λ o. held-whole (line s o) (index (vol s) m o) (index-below (vol s) m h o) (met s m p .whole o) in
+      rw (lt-leb (toOf s) (fromOf s) proper, held X, held Y, held Z) refl
+
 module _ {s : Scene} (able : Able s) {w : Walk} {at : Side → ℕ} (on : Walking s w at) where
   -- ---- the voxel that the walk is in
   abbrev here : ℕ
   here = number (vol s) at
-
-  abbrev to : ℕ
-  to = toOf s
 
   inside : (o : Side) → at o < line s o .n
   inside o = on .within o .inside
@@ -88,28 +94,25 @@ module _ {s : Scene} (able : Able s) {w : Walk} {at : Side → ℕ} (on : Walkin
   here-stop : stop (ray s) (voxel (vol s) here) ≡ min (dOf (ray s)) (soonest w)
   here-stop = ap (min (dOf (ray s))) (least-same (λ o. leave s o (index (vol s) here o) (index (vol s) here o + 1)) (leaveOf w) (λ o. rw (there o) (sym (on .leaves o))))
 
-  here-held : (o : Side) → Held s o (index (vol s) here o)
-  here-held o = rw (there o) (on .within o .holds)
-
   pub soon-later : w .t < soonest w
   soon-later = lt-least (leaveOf w) (w .t) (λ o. rw (on .leaves o) (on .within o .until))
 
-  pub to-d : to ≤ dOf (ray s)
+  pub to-d : toOf s ≤ dOf (ray s)
   to-d = cut-le (dOf (ray s)) (least (λ o. leave s o 0 (line s o .n)))
 
   here-part : partOf (vol s) (ray s) here ≡ min (dOf (ray s)) (soonest w) - w .t
-  here-part = rw (part-met s here here-held, here-stop, here-start) refl
+  here-part = rw (part-met s here (λ o. rw (there o) (on .within o .holds)), here-stop, here-start) refl
 
   -- up to the next plane, or to where the ray leaves the array
-  pub part-more : soonest w < to → partOf (vol s) (ray s) here ≡ soonest w - w .t
+  pub part-more : soonest w < toOf s → partOf (vol s) (ray s) here ≡ soonest w - w .t
   part-more h = here-part ∙ ap (λ (x : ℕ). x - w .t) (less (dOf (ray s)) (soonest w) (omega (arith, to-d)))
     where
       less : (d u : ℕ) → u ≤ d → min d u ≡ u
       less d u h = omega arith
 
-  pub part-last : to ≤ soonest w → partOf (vol s) (ray s) here ≡ to - w .t
+  pub part-last : toOf s ≤ soonest w → partOf (vol s) (ray s) here ≡ toOf s - w .t
   part-last h =
-      here-part ∙ ap (λ (x : ℕ). x - w .t) (le-antisymm (rw here-stop at (stop-soon s here here-below)) (both (dOf (ray s)) (soonest w) to to-d h))
+      here-part ∙ ap (λ (x : ℕ). x - w .t) (le-antisymm (rw here-stop at (stop-soon s here here-below)) (both (dOf (ray s)) (soonest w) (toOf s) to-d h))
     where
       both : (d u x : ℕ) → x ≤ d → x ≤ u → x ≤ min d u
       both d u x h k = omega arith
@@ -133,7 +136,7 @@ module _ {s : Scene} (able : Able s) {w : Walk} {at : Side → ℕ} (on : Walkin
   number-kept = rw (on .numbers) (mod-eq-of-lt (omega (arith, number-small (vol s) (λ o. able .sized o .n-size) at inside)))
 
   -- ---- a turn
-  module _ {t : Strides} (paced : Paced s t) (more : soonest w < to) where
+  module _ {t : Strides} (paced : Paced s t) (more : soonest w < toOf s) where
     abbrev flag : Side → Bool
     flag o = eqb (leaveOf w o) (soonest w)
 
