@@ -49,12 +49,9 @@ frame s = record {
 framed : (s : Scene) → Framed s (frame s)
 framed s = record { rests = each _ refl refl refl; denominator-is = refl; from-is = refl; to-is = refl; hit-is = refl }
 
--- one voxel on, and one back
-abbrev jump : (p q u : ℕ) → ℕ
-jump p q u = cond (ltb p q) u (2 ^ 64 - u)
-
-jumps : (p q u : ℕ) → u ≤ 2 ^ 64 → (p < q → jump p q u ≡ u) × (q ≤ p → jump p q u + u ≡ 2 ^ 64)
-jumps p q u h = ((λ k. rw (lt-ltb p q k) refl), (λ k. rw (le-ltb p q k) (omega arith)))
+-- one voxel on, or one back
+abbrev jump : Scene → Side → ℕ
+jump s o = cond (ltb (line s o .p) (line s o .q)) (unit (volumeOf s) o) (2 ^ 64 - unit (volumeOf s) o)
 
 module _ {s : Scene} (able : Able s) where
   abbrev strides : Strides
@@ -62,21 +59,19 @@ module _ {s : Scene} (able : Able s) where
     dx = s .x .d * frame s .cx;
     dy = s .y .d * frame s .cy;
     dz = s .z .d * frame s .cz;
-    vx = jump (s .x .p) (s .x .q) (unit (volumeOf s) X);
-    vy = jump (s .y .p) (s .y .q) (unit (volumeOf s) Y);
-    vz = jump (s .z .p) (s .z .q) (unit (volumeOf s) Z);
+    vx = jump s X;
+    vy = jump s Y;
+    vz = jump s Z;
   }
 
-  jumps-at : (o : Side) → (line s o .p < line s o .q → jump (line s o .p) (line s o .q) (unit (volumeOf s) o) ≡ unit (volumeOf s) o)
-      × (line s o .q ≤ line s o .p → jump (line s o .p) (line s o .q) (unit (volumeOf s) o) + unit (volumeOf s) o ≡ 2 ^ 64)
-  jumps-at o = jumps (line s o .p) (line s o .q) (unit (volumeOf s) o) (omega (arith, unit-few able o))
+  on-up : (o : Side) → line s o .p < line s o .q → jump s o ≡ unit (volumeOf s) o
+  on-up o k = rw (lt-ltb (line s o .p) (line s o .q) k) refl
+
+  on-down : (o : Side) → line s o .q ≤ line s o .p → jump s o + unit (volumeOf s) o ≡ 2 ^ 64
+  on-down o k = rw (le-ltb (line s o .p) (line s o .q) k) (omega (arith, unit-few able o))
 
   pacing : Strided s (frame s) strides
-  pacing = record {
-    ticks = each _ refl refl refl;
-    upward = each _ (jumps-at X .0) (jumps-at Y .0) (jumps-at Z .0);
-    downward = each _ (jumps-at X .1) (jumps-at Y .1) (jumps-at Z .1);
-  }
+  pacing = record { ticks = each _ refl refl refl; upward = each _ (on-up X) (on-up Y) (on-up Z); downward = each _ (on-down X) (on-down Y) (on-down Z) }
 
   module _ (hit : misses (volumeOf s) (rayOf s) ≡ false) where
     hits : frame s .hit ≡ true
