@@ -29,26 +29,18 @@ use Rattle.ray.proofs.Indices.{number}
 use Rattle.walk.proofs.Walking.{Paced, Walking, start-late, here-below, here-start, soon-later, to-d, next-at}
 use Rattle.walk.proofs.Found.{walk-all}
 
--- the plane by which the ray leaves an axis' voxel
-abbrev far : Way → ℕ → ℕ
-far up i = i + 1
-far down i = i
-far still i = i
-
-far-inside : (w : Way) (i n : ℕ) → i < n → far w i < n + 1
-far-inside up i n h = omega arith
-far-inside down i n h = omega arith
-far-inside still i n h = omega arith
-
 module _ (a : Line) (c : ℕ) where
   abbrev tick : ℕ → ℕ
   tick m = run (legN (a .p) (a .q)) (pos (plane a m)) * c
 
   -- the plane by which a moving axis leaves a voxel is met there
-  left-by : (w : Way) (i : ℕ) → Goes w (a .p) (a .q) → Left w i → (moving (legN (a .p) (a .q)) ≡ true) × (tick (far w i) ≡ leavesAt a c i (i + 1))
-  left-by up i g m = (moves (a .p) (a .q) (λ e. omega arith), ap (λ (x : ℕ). x * c) (run-up (a .p) (a .q) (plane a (i + 1)) g) ∙ sym (leave-voxel a c up g i))
-  left-by down i g m = (moves (a .p) (a .q) (λ e. omega arith), ap (λ (x : ℕ). x * c) (run-down (a .p) (a .q) (plane a i) g) ∙ sym (leave-voxel a c down g i))
-  left-by still i g m = absurd m
+  left-by : (w : Way) (i : ℕ) → i < a .n → Goes w (a .p) (a .q) → Left w i
+      → (m : ℕ) × (m < a .n + 1) × (moving (legN (a .p) (a .q)) ≡ true) × (tick m ≡ leavesAt a c i (i + 1))
+  left-by up i h g l =
+      (i + 1, omega arith, moves (a .p) (a .q) (λ e. omega arith), ap (λ (x : ℕ). x * c) (run-up (a .p) (a .q) (plane a (i + 1)) g) ∙ sym (leave-voxel a c up g i))
+  left-by down i h g l =
+      (i, omega arith, moves (a .p) (a .q) (λ e. omega arith), ap (λ (x : ℕ). x * c) (run-down (a .p) (a .q) (plane a i) g) ∙ sym (leave-voxel a c down g i))
+  left-by still i h g l = absurd l
 
   -- a plane that is met after the ray came into a voxel is not met before the ray leaves it
   not-before : (w : Way) (i m t : ℕ) → Goes w (a .p) (a .q) → moving (legN (a .p) (a .q)) ≡ true → Within a c t i → t < tick m → leavesAt a c i (i + 1) ≤ tick m
@@ -88,11 +80,10 @@ module _ {s : Scene} (able : Able s) where
     end-crossed paced more =
         let o : Side = least-one (leaveOf w) .0 in
         let u : leaveOf w o ≡ soonest w = least-one (leaveOf w) .1 in
-        let i : ℕ = far (way s o) (at o) in
-        let m = left-by (line s o) (rest (ray s) o) (way s o) (at o) (going (line s o)) (next-at able on paced more o u .left) in
-        let e : alphaOf (vol s) (ray s) o i ≡ soonest w = alpha-is o i ∙ m .1 ∙ sym (on .leaves o) ∙ u in
-        crossed-yes (vol s) (ray s) (soonest w) o i (far-inside (way s o) (at o) (line s o .n) (on .within o .inside))
-        (means-crosses (vol s) (ray s) o i (rw (leg-is s o) (m .0)) (omega (arith, since-start, soon-later able on)) (omega arith)) e
+        let m = left-by (line s o) (rest (ray s) o) (way s o) (at o) (on .within o .inside) (going (line s o)) (next-at able on paced more o u .left) in
+        let e : alphaOf (vol s) (ray s) o (m .0) ≡ soonest w = alpha-is o (m .0) ∙ m .3 ∙ sym (on .leaves o) ∙ u in
+        crossed-yes (vol s) (ray s) (soonest w) o (m .0) (m .1)
+        (means-crosses (vol s) (ray s) o (m .0) (rw (leg-is s o) (m .2)) (omega (arith, since-start, soon-later able on)) (omega arith)) e
 
   pub found-alphas : {t : Strides} (paced : Paced s t) {w : Walk} {at : Side → ℕ} → Walking s w at → Forward t (toOf s) w
       → length (entries t (toOf s) w) ≡ 1 + after crossed (dOf (ray s)) (w .t)
