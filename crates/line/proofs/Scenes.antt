@@ -43,12 +43,22 @@ module _ (s : Scene) where
   abbrev pub toOf : ℕ
   toOf = stop ray (array vol)
 
-  -- where the ray comes in and goes out between two planes of an axis, in ticks; start and stop are the greatest and the least of these
-  abbrev pub enter : Side → ℕ → ℕ → ℕ
-  enter o i j = entersAt (line s o) (rest ray o) i j
-
+  -- where the ray goes out between two planes of an axis, in ticks
   abbrev pub leave : Side → ℕ → ℕ → ℕ
   leave o i j = leavesAt (line s o) (rest ray o) i j
+
+  -- where it comes in and goes out of the voxel `at`, and of the array; start and stop are the greatest and the least of these
+  abbrev pub enterIn : (Side → ℕ) → Side → ℕ
+  enterIn at o = entersAt (line s o) (rest ray o) (at o) (at o + 1)
+
+  abbrev pub leaveIn : (Side → ℕ) → Side → ℕ
+  leaveIn at o = leave o (at o) (at o + 1)
+
+  abbrev pub enterAll : Side → ℕ
+  enterAll o = entersAt (line s o) (rest ray o) 0 (line s o .n)
+
+  abbrev pub leaveAll : Side → ℕ
+  leaveAll o = leave o 0 (line s o .n)
 
   abbrev pub Held : Side → ℕ → Type 0
   Held o i = heldAt (line s o) i (i + 1) ≡ true

@@ -19,7 +19,7 @@ use Rattle.line.proofs.Units.{moves, stays, run-up, run-down}
 use Rattle.line.proofs.Three.{least-le, least-one}
 use Rattle.line.proofs.Stretch.{going, enter-voxel, leave-voxel, Left}
 use Rattle.line.proofs.Crossing.{up-rise, down-fall}
-use Rattle.line.proofs.Scenes.{vol, ray, way, leg-is, leave, fromOf, toOf}
+use Rattle.line.proofs.Scenes.{vol, ray, way, leg-is, fromOf, toOf, leaveIn}
 use Rattle.walk.specs.declared.steps.Walk.{Walk}
 use Rattle.walk.specs.declared.steps.Strides.{Strides}
 use Rattle.walk.specs.Model.{leaveOf, soonest, entries, Forward}
@@ -65,7 +65,7 @@ module _ {s : Scene} (able : Able s) where
     -- no α within the turn
     quiet : (x : ℕ) → w .t < x → x < soonest w → crossed x ≡ false
     quiet x a b = crossed-no (vol s) (ray s) x (λ o i h c e.
-        let met : leave s o (at o) (at o + 1) ≤ tick (line s o) (rest (ray s) o) i = not-before (line s o) (rest (ray s) o) (way s o) (at o) i (w .t) (going (line s o))
+        let met : leaveIn s at o ≤ tick (line s o) (rest (ray s) o) i = not-before (line s o) (rest (ray s) o) (way s o) (at o) i (w .t) (going (line s o))
         (rw (leg-is s o) at (crosses-means (vol s) (ray s) o i c .0)) (on .within o) (omega (arith, alpha-is o i)) in
         omega (arith, alpha-is o i, on .leaves o, least-le (leaveOf w) o))
 

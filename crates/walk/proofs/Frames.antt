@@ -10,7 +10,7 @@ use Rattle.line.specs.declared.reach.Reach.{Reach}
 use Rattle.line.specs.Scene.{line, volumeOf, rayOf}
 use Rattle.line.specs.Reach.{Reached}
 use Rattle.line.proofs.Three.{most, least, most-same, least-same}
-use Rattle.line.proofs.Scenes.{fromOf, toOf, enter, leave}
+use Rattle.line.proofs.Scenes.{fromOf, toOf, enterAll, leaveAll}
 use Rattle.walk.specs.declared.plan.Frame.{Frame}
 use Rattle.walk.specs.Plan.{restOf, Framed}
 
@@ -28,8 +28,8 @@ module _ {s : Scene} {f : Frame} (r : Side → Reach) (rests : (o : Side) → re
   pub framed : f .denominator ≡ dOf (rayOf s) → f .from ≡ most (λ o. r o .from) → f .to ≡ min (f .denominator) (least (λ o. r o .to))
       → f .hit ≡ (ltb (f .from) (f .to) && (r X .held && (r Y .held && r Z .held))) → Framed s f
   framed d m l h =
-      let from : f .from ≡ fromOf s = m ∙ most-same (λ o. r o .from) (λ o. enter s o 0 (line s o .n)) (λ o. rw (← rests o) (reached o .from-is)) in
-      let to : f .to ≡ toOf s = l ∙ rw (d, least-same (λ o. r o .to) (λ o. leave s o 0 (line s o .n)) (λ o. rw (← rests o) (reached o .to-is))) refl in
+      let from : f .from ≡ fromOf s = m ∙ most-same (λ o. r o .from) (enterAll s) (λ o. rw (← rests o) (reached o .from-is)) in
+      let to : f .to ≡ toOf s = l ∙ rw (d, least-same (λ o. r o .to) (leaveAll s) (λ o. rw (← rests o) (reached o .to-is))) refl in
       record {
         rests = rests;
         denominator-is = d;

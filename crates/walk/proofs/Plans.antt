@@ -20,7 +20,7 @@ use Rattle.line.proofs.Three.{each, most-le, le-most, least-le, most-mono}
 use Rattle.line.proofs.Stretch.{going, enter-whole}
 use Rattle.line.proofs.Steps.{stride}
 use Rattle.line.proofs.Sizes.{two-sizes, three-sizes, factor-size}
-use Rattle.line.proofs.Scenes.{way, leg-is, enter, leave, all-held, fromOf, toOf}
+use Rattle.line.proofs.Scenes.{way, leg-is, leave, all-held, fromOf, toOf, enterIn, enterAll, leaveAll}
 use Rattle.walk.specs.declared.steps.Walk.{Walk}
 use Rattle.walk.specs.declared.steps.Strides.{Strides}
 use Rattle.walk.specs.declared.plan.Frame.{Frame}
@@ -78,8 +78,8 @@ module _ {s : Scene} (able : Able s) where
       windows o t a b = rw (framed .rests o) (record {
         some = rest-pos (rayOf s) o;
         holds = all-held (λ x. heldAt (line s x) 0 (line s x .n)) held-all o;
-        since = le-trans (le-most (λ x. enter s x 0 (line s x .n)) o) (rw (framed .from-is) at a);
-        until = lt-of-lt-of-le (under-least (dOf (rayOf s)) t _ (rw (framed .to-is) at b)) (least-le (λ x. leave s x 0 (line s x .n)) o);
+        since = le-trans (le-most (enterAll s) o) (rw (framed .from-is) at a);
+        until = lt-of-lt-of-le (under-least (dOf (rayOf s)) t _ (rw (framed .to-is) at b)) (least-le (leaveAll s) o);
       })
 
       -- what `index` asks at the first tick, and `crossed` at the first and the last
@@ -100,8 +100,8 @@ module _ {s : Scene} (able : Able s) where
         walking = record {
           within = inside;
           leaves = λ o. rw (← framed .rests o) (begun .leaves-at o);
-          newest = le-antisymm (most-le (λ o. enter s o (at o) (at o + 1)) (w .t) (λ o. inside o .since))
-              (le-trans (le-of-eq (begun .tick ∙ framed .from-is)) (most-mono (λ o. enter s o 0 (line s o .n)) _ (λ o. enter-whole (line s o) (rest (rayOf s) o) (at o) (begun .within o .inside))));
+          newest = le-antisymm (most-le (enterIn s at) (w .t) (λ o. inside o .since))
+              (le-trans (le-of-eq (begun .tick ∙ framed .from-is)) (most-mono (enterAll s) _ (λ o. enter-whole (line s o) (rest (rayOf s) o) (at o) (begun .within o .inside))));
           numbers = begun .number;
         }
 

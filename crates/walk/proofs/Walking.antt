@@ -13,7 +13,7 @@ use Rattle.line.specs.declared.scene.Scene.{Scene}
 use Rattle.line.specs.Scene.{line, Able, heldAt, Within}
 use Rattle.line.proofs.Three.{most, least, most-le, le-most, least-le, least-one, lt-least, least-mono, most-mono, most-same, least-same}
 use Rattle.line.proofs.Stretch.{onward, Left, Next, next as next-voxel, enter-whole, leave-whole, held-whole, one-voxel}
-use Rattle.line.proofs.Scenes.{vol, ray, way, enter, leave, met, part-met, fromOf, toOf}
+use Rattle.line.proofs.Scenes.{vol, ray, way, leave, met, part-met, fromOf, toOf, enterIn, leaveIn, enterAll, leaveAll}
 use Rattle.walk.specs.declared.steps.Walk.{Walk}
 use Rattle.walk.specs.declared.steps.Strides.{Strides}
 use Rattle.walk.specs.Model.{leaveOf, stepOf, jumpOf, soonest, next, stepped}
@@ -32,8 +32,8 @@ Inside s t at = (o : Side) → Within (line s o) (rest (ray s) o) t (at o)
 
 pub record Walking (s : Scene) (w : Walk) (at : Side → ℕ) : Type 0 where
   pub within : Inside s (w .t) at
-  pub leaves : (o : Side) → leaveOf w o ≡ leave s o (at o) (at o + 1)
-  pub newest : most (λ o. enter s o (at o) (at o + 1)) ≡ w .t
+  pub leaves : (o : Side) → leaveOf w o ≡ leaveIn s at o
+  pub newest : most (enterIn s at) ≡ w .t
   pub numbers : w .v ≡ number (vol s) at
 
 pub under-least : (d t l : ℕ) → t < min d l → t < l
@@ -45,13 +45,11 @@ cut-le d l = omega arith
 module _ (s : Scene) (m : ℕ) (h : m < count (vol s)) where
   -- every voxel's stretch lies within the array's
   pub start-late : fromOf s ≤ start (ray s) (voxel (vol s) m)
-  start-late = most-mono (λ o. enter s o 0 (line s o .n)) (λ o. enter s o (index (vol s) m o) (index (vol s) m o + 1))
-      (λ o. enter-whole (line s o) (rest (ray s) o) (index (vol s) m o) (index-below (vol s) m h o))
+  start-late = most-mono (enterAll s) (enterIn s (index (vol s) m)) (λ o. enter-whole (line s o) (rest (ray s) o) (index (vol s) m o) (index-below (vol s) m h o))
 
   pub stop-soon : stop (ray s) (voxel (vol s) m) ≤ toOf s
   stop-soon = both (dOf (ray s)) _ _
-      (least-mono (λ o. leave s o (index (vol s) m o) (index (vol s) m o + 1)) (λ o. leave s o 0 (line s o .n))
-      (λ o. leave-whole (line s o) (rest (ray s) o) (index (vol s) m o) (index-below (vol s) m h o)))
+      (least-mono (leaveIn s (index (vol s) m)) (leaveAll s) (λ o. leave-whole (line s o) (rest (ray s) o) (index (vol s) m o) (index-below (vol s) m h o)))
     where
       both : (d x y : ℕ) → x ≤ y → min d x ≤ min d y
       both d x y h = omega arith
@@ -61,8 +59,8 @@ module _ (s : Scene) (m : ℕ) (h : m < count (vol s)) where
   through t p a b o = record {
     inside = index-below (vol s) m h o;
     holds = met s m p .whole o;
-    since = le-trans (le-most (λ x. enter s x (index (vol s) m x) (index (vol s) m x + 1)) o) a;
-    until = lt-of-lt-of-le (under-least (dOf (ray s)) t _ b) (least-le (λ x. leave s x (index (vol s) m x) (index (vol s) m x + 1)) o);
+    since = le-trans (le-most (enterIn s (index (vol s) m)) o) a;
+    until = lt-of-lt-of-le (under-least (dOf (ray s)) t _ b) (least-le (leaveIn s (index (vol s) m)) o);
   }
 
   -- and so a ray that has a part in it hits
@@ -89,16 +87,16 @@ module _ {s : Scene} (able : Able s) {w : Walk} {at : Side → ℕ} (on : Walkin
   here-below = number-below (vol s) at inside
 
   pub here-start : start (ray s) (voxel (vol s) here) ≡ w .t
-  here-start = most-same (λ o. enter s o (index (vol s) here o) (index (vol s) here o + 1)) (λ o. enter s o (at o) (at o + 1)) (λ o. rw (there o) refl) ∙ on .newest
+  here-start = most-same (enterIn s (index (vol s) here)) (enterIn s at) (λ o. rw (there o) refl) ∙ on .newest
 
   here-stop : stop (ray s) (voxel (vol s) here) ≡ min (dOf (ray s)) (soonest w)
-  here-stop = ap (min (dOf (ray s))) (least-same (λ o. leave s o (index (vol s) here o) (index (vol s) here o + 1)) (leaveOf w) (λ o. rw (there o) (sym (on .leaves o))))
+  here-stop = ap (min (dOf (ray s))) (least-same (leaveIn s (index (vol s) here)) (leaveOf w) (λ o. rw (there o) (sym (on .leaves o))))
 
   pub soon-later : w .t < soonest w
   soon-later = lt-least (leaveOf w) (w .t) (λ o. rw (on .leaves o) (on .within o .until))
 
   pub to-d : toOf s ≤ dOf (ray s)
-  to-d = cut-le (dOf (ray s)) (least (λ o. leave s o 0 (line s o .n)))
+  to-d = cut-le (dOf (ray s)) (least (leaveAll s))
 
   here-part : partOf (vol s) (ray s) here ≡ min (dOf (ray s)) (soonest w) - w .t
   here-part = rw (part-met s here (λ o. rw (there o) (on .within o .holds)), here-stop, here-start) refl
@@ -146,12 +144,12 @@ module _ {s : Scene} (able : Able s) {w : Walk} {at : Side → ℕ} (on : Walkin
     abbrev pub onAt : Side → ℕ
     onAt o = go o (flag o)
 
-    leave-less : (o : Side) → leaveOf w o ≡ soonest w → leave s o (at o) (at o + 1) < leave s o 0 (line s o .n)
+    leave-less : (o : Side) → leaveOf w o ≡ soonest w → leaveIn s at o < leaveAll s o
     leave-less o e =
         lt-of-le-of-lt (rw (on .leaves o) at (le-of-eq e))
-        (lt-of-lt-of-le (under-least (dOf (ray s)) (soonest w) _ more) (least-le (λ x. leave s x 0 (line s x .n)) o))
+        (lt-of-lt-of-le (under-least (dOf (ray s)) (soonest w) _ more) (least-le (leaveAll s) o))
 
-    leave-some : (o : Side) → 0 < leave s o (at o) (at o + 1)
+    leave-some : (o : Side) → 0 < leaveIn s at o
     leave-some o = omega (arith, on .within o .until)
 
     pub next-at : (o : Side) → leaveOf w o ≡ soonest w → Next (way s o) (line s o) (rest (ray s) o) (at o)
@@ -194,13 +192,13 @@ module _ {s : Scene} (able : Able s) {w : Walk} {at : Side → ℕ} (on : Walkin
         rw (on .numbers)
         (all-over (vol s) (λ o. able .sized o .n-size) (way s) at flag (jumpOf t) (paced .jumps) (λ o e. next-at o (eqb-true (leaveOf w o) (soonest w) e) .left) inside (λ o. kept o .within .inside))
 
-    fresh : (o : Side) → leaveOf w o ≡ soonest w → enter s o (onAt o) (onAt o + 1) ≡ soonest w
+    fresh : (o : Side) → leaveOf w o ≡ soonest w → enterIn s onAt o ≡ soonest w
     fresh o e = rw (eq-eqb (leaveOf w o) (soonest w) e) (next-at o e .enters ∙ sym (on .leaves o) ∙ e)
 
-    newest-on : most (λ o. enter s o (onAt o) (onAt o + 1)) ≡ soonest w
+    newest-on : most (enterIn s onAt) ≡ soonest w
     newest-on =
         let o = least-one (leaveOf w) in
-        le-antisymm (most-le _ (soonest w) (λ x. kept x .within .since)) (le-trans (le-of-eq (sym (fresh (o .0) (o .1)))) (le-most (λ x. enter s x (onAt x) (onAt x + 1)) (o .0)))
+        le-antisymm (most-le _ (soonest w) (λ x. kept x .within .since)) (le-trans (le-of-eq (sym (fresh (o .0) (o .1)))) (le-most (enterIn s onAt) (o .0)))
 
     pub walking-on : Walking s (stepped t w) onAt
     walking-on = record {
