@@ -7,7 +7,7 @@ use borrow.Author.Tests.{le-leb}
 use Rattle.axis.proofs.Flag.{and-left, and-right}
 use Rattle.ray.proofs.Planes.{Rise}
 use Rattle.ray.specs.declared.Ray.{Ray}
-use Rattle.ray.specs.Length.{Side, X, Y, Z, leg, rest, Volume, index, voxel, holds, start, stop, partOf}
+use Rattle.ray.specs.Length.{Side, X, Y, Z, leg, rest, Volume, array, index, voxel, holds, start, stop, partOf}
 use Rattle.line.specs.declared.scene.Scene.{Scene}
 use Rattle.line.specs.Scene.{legN, plane, line, volumeOf, rayOf, entersAt, leavesAt, heldAt}
 use Rattle.ray.proofs.Way.{Way}
@@ -36,12 +36,29 @@ module _ (s : Scene) where
   pub scene-rise : Rise vol
   scene-rise o i h = le-leb (plane (line s o) i) (plane (line s o) (i + 1)) (plane-mono (line s o) (omega arith))
 
-  -- where the ray comes in and goes out between two planes of an axis, in ticks; start and stop are the greatest and the least of these
-  abbrev pub enter : Side → ℕ → ℕ → ℕ
-  enter o i j = entersAt (line s o) (rest ray o) i j
+  -- the ticks of αmin and αmax
+  abbrev pub fromOf : ℕ
+  fromOf = start ray (array vol)
 
+  abbrev pub toOf : ℕ
+  toOf = stop ray (array vol)
+
+  -- where the ray goes out between two planes of an axis, in ticks
   abbrev pub leave : Side → ℕ → ℕ → ℕ
   leave o i j = leavesAt (line s o) (rest ray o) i j
+
+  -- where it comes in and goes out of the voxel `at`, and of the array; start and stop are the greatest and the least of these
+  abbrev pub enterIn : (Side → ℕ) → Side → ℕ
+  enterIn at o = entersAt (line s o) (rest ray o) (at o) (at o + 1)
+
+  abbrev pub leaveIn : (Side → ℕ) → Side → ℕ
+  leaveIn at o = leave o (at o) (at o + 1)
+
+  abbrev pub enterAll : Side → ℕ
+  enterAll o = entersAt (line s o) (rest ray o) 0 (line s o .n)
+
+  abbrev pub leaveAll : Side → ℕ
+  leaveAll o = leave o 0 (line s o .n)
 
   abbrev pub Held : Side → ℕ → Type 0
   Held o i = heldAt (line s o) i (i + 1) ≡ true

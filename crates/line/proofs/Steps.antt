@@ -1,7 +1,7 @@
 -- Equal steps: where the next plane lies, and the voxel of a tick by a division. All else that is proved of a line knows only that
 -- its planes rise. Assumes nothing.
 use Prim.Native.Nat.{ℕ, suc, _+_, _-_, _*_, _/_, _≤_, _<_}
-use mathlib.Core.Path.{_≡_, refl, sym, ap, _∙_}
+use mathlib.Core.Path.{_≡_, sym, ap, _∙_}
 use native.Mathlib.Omega.{arith}
 use native.Mathlib.Decide.{decLt}
 use native.Mathlib.Nat.{add-mul, suc-mul, one-mul, zero-mul, div-lt-iff-lt-mul, div-mul-le-self}
@@ -20,10 +20,9 @@ module _ (a : Line) (i : ℕ) where
       → leaveBy w (a .p) (plane a (onward w i)) (plane a (onward w i + 1)) ≡ leaveBy w (a .p) (plane a i) (plane a (i + 1)) + a .d
   step-unit up l s = omega (arith, plane-next a (i + 1))
   step-unit down l s =
-      let some = l .down-some refl in
       let back : i - 1 + 1 ≡ i = omega arith in
       omega (arith, plane-next a (i - 1), ap (plane a) back)
-  step-unit still l s = absurd (l .moves refl)
+  step-unit still l s = absurd l
 
   pub stride : (c : ℕ) → Left (wayOf a) i → 0 < leavesAt a c i (i + 1) → leavesAt a c (onward (wayOf a) i) (onward (wayOf a) i + 1) ≡ leavesAt a c i (i + 1) + a .d * c
   stride c l s =

@@ -10,7 +10,7 @@ use native.Mathlib.Nat.{le-of-eq, mul-le-mul-right, mul-lt-mul-of-pos-right, lt-
 use Rattle.line.specs.declared.line.Line.{Line}
 use Rattle.line.specs.Scene.{plane, Sized, entersAt, leavesAt, heldAt, Within}
 use Rattle.ray.proofs.Way.{Way, up, down, still, Goes, way as goes}
-use Rattle.line.proofs.Units.{enterBy, leaveBy, HeldBy, enters-is, leaves-is, held-by, by-held, enter-within, leave-within, held-within, held-moving, apart}
+use Rattle.line.proofs.Units.{enterBy, leaveBy, HeldBy, enters-is, leaves-is, held-by, by-held, enter-within, leave-within, held-within, apart}
 
 -- ---- planes rise
 pub plane-mono : (a : Line) {i j : ℕ} → i ≤ j → plane a i ≤ plane a j
@@ -86,10 +86,16 @@ onward up i = i + 1
 onward down i = i - 1
 onward still i = i
 
--- an axis that the ray moves on, and not at the end of
-pub record Left (w : Way) (i : ℕ) : Type 0 where
-  pub moves : w ≡ still → ⊥
-  pub down-some : w ≡ down → 0 < i
+-- that there is one: the ray moves, and is not at the lower end
+abbrev pub Left : Way → ℕ → Type 0
+Left up i = Unit {0}
+Left down i = 0 < i
+Left still i = ⊥
+
+held-left : (w : Way) (p lo hi i : ℕ) → Left w i → HeldBy w p lo hi
+held-left up p lo hi i l = tt
+held-left down p lo hi i l = tt
+held-left still p lo hi i l = absurd l
 
 -- the next voxel is the one that the tick is in at which this one is left
 pub record Next (w : Way) (a : Line) (c i : ℕ) : Type 0 where
@@ -110,7 +116,7 @@ module _ (a : Line) (sized : Sized a) (i : ℕ) (h : i < a .n) where
   next-unit : (w : Way) → 0 < here w → here w < leaveBy w (a .p) (plane a 0) (plane a (a .n))
       → Left w i × (onward w i < a .n) × (enterBy w (a .p) (plane a (onward w i)) (plane a (onward w i + 1)) ≡ here w) × (here w < leaveBy w (a .p) (plane a (onward w i)) (plane a (onward w i + 1)))
   next-unit up s l = (
-    record { moves = λ e. let z : _≡_ {A = ℕ} 0 1 = cc in omega arith; down-some = λ e. let z : _≡_ {A = ℕ} 0 1 = cc in omega arith },
+    tt,
     elim (decLt (i + 1) (a .n)) [ yes m ↦ m | no m ↦ absurd (omega (arith, plane-mono a {i = a .n} {j = i + 1} (omega arith))) ],
     refl,
     omega (arith, plane-less a sized (i + 1)),
@@ -118,7 +124,7 @@ module _ (a : Line) (sized : Sized a) (i : ℕ) (h : i < a .n) where
   next-unit down s l =
       let some : 0 < i = elim (decLt 0 i) [ yes m ↦ m | no m ↦ let e : i ≡ 0 = omega arith in absurd (omega (arith, ap (plane a) e)) ] in
       let back : i - 1 + 1 ≡ i = omega arith in (
-        record { moves = λ e. let z : _≡_ {A = ℕ} 0 1 = cc in omega arith; down-some = λ e. some },
+        some,
         omega arith,
         ap (λ (x : ℕ). a .p - plane a x) back,
         omega (arith, plane-less a sized (i - 1), ap (plane a) back),
@@ -138,7 +144,7 @@ module _ (a : Line) (sized : Sized a) (i : ℕ) (h : i < a .n) where
         left = u .0;
         within = record {
           inside = u .1;
-          holds = by-held w (a .p) (a .q) (plane a (onward w i)) (plane a (onward w i + 1)) g (held-moving w _ _ _ (u .0 .moves));
+          holds = by-held w (a .p) (a .q) (plane a (onward w i)) (plane a (onward w i + 1)) g (held-left w _ _ _ i (u .0));
           since = le-of-eq enter;
           until = omega (arith, mul-lt-mul-of-pos-right (u .3) (some .1), leave-voxel a c w g (onward w i));
         };

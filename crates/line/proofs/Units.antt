@@ -10,11 +10,15 @@ use native.Mathlib.Nat.{zero-mul, one-mul}
 use lib.Dec.{ltb, leb}
 use lib.IntN.{pos, natAbs, _-ℤ_}
 use borrow.Author.Tests.{lt-ltb, le-ltb, le-leb, ltb-true, leb-true}
-use Rattle.axis.specs.Leg.{moving, factor, run, held, enters, leaves}
+use Rattle.axis.specs.Leg.{moving, factor, run, Slab, held, enters, leaves}
 use Rattle.axis.proofs.Flag.{and-left, and-right}
 use Rattle.ray.proofs.Way.{Way, up, down, still, Goes, factorBy}
 use Rattle.axis.proofs.Shift.{natural-diff, sub-lt, sub-ge}
 use Rattle.line.specs.Scene.{legN, slabN}
+
+-- what is said of a slab is said of its planes by any name
+pub slab-same : {A : Type 0} (f : Slab → A) {lo hi lo′ hi′ : ℕ} → lo ≡ lo′ → hi ≡ hi′ → f (slabN lo hi) ≡ f (slabN lo′ hi′)
+slab-same f e k = rw (e, k) refl
 
 abbrev pub enterBy : Way → ℕ → ℕ → ℕ → ℕ
 enterBy up p lo hi = lo - p
@@ -100,11 +104,6 @@ pub held-within : (w : Way) (p : ℕ) {lo hi lo₀ hi₁ : ℕ} → lo₀ ≤ lo
 held-within up p a b h = tt
 held-within down p a b h = tt
 held-within still p a b h = (omega (arith, h .0), omega (arith, h .1))
-
-pub held-moving : (w : Way) (p lo hi : ℕ) → (w ≡ still → ⊥) → HeldBy w p lo hi
-held-moving up p lo hi h = tt
-held-moving down p lo hi h = tt
-held-moving still p lo hi h = absurd (h refl)
 
 -- two stretches with no place in common: the ray is out of one before it is in the other
 pub apart : (w : Way) (p : ℕ) {lo hi lo′ hi′ : ℕ} → lo < hi → lo′ < hi′ → hi ≤ lo′ → HeldBy w p lo hi → HeldBy w p lo′ hi′

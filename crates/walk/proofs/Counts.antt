@@ -20,7 +20,7 @@ use Rattle.line.specs.Scene.{volumeOf, rayOf, Able}
 use Rattle.walk.specs.Model.{Entry, entries}
 use Rattle.walk.proofs.Found.{found-list, found-parts, found-total}
 use Rattle.walk.proofs.SetOut.{SetOut, set-out, few-planes}
-use Rattle.walk.proofs.Missed.{part-hits}
+use Rattle.walk.proofs.Walking.{part-hits}
 use Rattle.walk.proofs.Alphas.{found-alphas}
 
 either-way : {P : Type 0} (b : Bool) → (b ≡ false → P) → (b ≡ true → P) → P

@@ -4,19 +4,20 @@ use mathlib.Core.Path.{_≡_, refl, _∙_}
 use mathlib.Core.Bool.{Bool, true, false, _&&_, _||_, not}
 use lib.Dec.{ltb, leb}
 use Rattle.axis.proofs.Flag.{lt-not-le}
-use Rattle.ray.specs.Length.{Side, X, Y, Z, rest, dOf, array, start, stop, holds, misses}
+use Rattle.ray.specs.Length.{Side, X, Y, Z, rest, dOf, array, holds, misses}
 use Rattle.line.specs.declared.scene.Scene.{Scene}
 use Rattle.line.specs.declared.reach.Reach.{Reach}
-use Rattle.line.specs.Scene.{line, volumeOf, rayOf, entersAt, leavesAt}
+use Rattle.line.specs.Scene.{line, volumeOf, rayOf}
 use Rattle.line.specs.Reach.{Reached}
 use Rattle.line.proofs.Three.{most, least, most-same, least-same}
+use Rattle.line.proofs.Scenes.{fromOf, toOf, enterAll, leaveAll}
 use Rattle.walk.specs.declared.plan.Frame.{Frame}
 use Rattle.walk.specs.Plan.{restOf, Framed}
 
 -- not missed: the window is not empty, and the array holds the ray
-hit-misses : (s : Scene) → (ltb (start (rayOf s) (array (volumeOf s))) (stop (rayOf s) (array (volumeOf s))) && holds (rayOf s) (array (volumeOf s))) ≡ not (misses (volumeOf s) (rayOf s))
+hit-misses : (s : Scene) → (ltb (fromOf s) (toOf s) && holds (rayOf s) (array (volumeOf s))) ≡ not (misses (volumeOf s) (rayOf s))
 unfolding misses
-hit-misses s = both _ (leb (stop (rayOf s) (array (volumeOf s))) (start (rayOf s) (array (volumeOf s)))) _ (lt-not-le (start (rayOf s) (array (volumeOf s))) (stop (rayOf s) (array (volumeOf s))))
+hit-misses s = both _ (leb (toOf s) (fromOf s)) _ (lt-not-le (fromOf s) (toOf s))
   where
     both : (t u h : Bool) → t ≡ not u → (t && h) ≡ not (u || not h)
     both t true h e = rw e refl
@@ -24,17 +25,11 @@ hit-misses s = both _ (leb (stop (rayOf s) (array (volumeOf s))) (start (rayOf s
     both t false false e = rw e refl
 
 module _ {s : Scene} {f : Frame} (r : Side → Reach) (rests : (o : Side) → restOf f o ≡ rest (rayOf s) o) (reached : (o : Side) → Reached (line s o) (restOf f o) (r o)) where
-  first : (o : Side) → r o .from ≡ entersAt (line s o) (rest (rayOf s) o) 0 (line s o .n)
-  first o = rw (← rests o) (reached o .from-is)
-
-  last : (o : Side) → r o .to ≡ leavesAt (line s o) (rest (rayOf s) o) 0 (line s o .n)
-  last o = rw (← rests o) (reached o .to-is)
-
   pub framed : f .denominator ≡ dOf (rayOf s) → f .from ≡ most (λ o. r o .from) → f .to ≡ min (f .denominator) (least (λ o. r o .to))
       → f .hit ≡ (ltb (f .from) (f .to) && (r X .held && (r Y .held && r Z .held))) → Framed s f
   framed d m l h =
-      let from : f .from ≡ start (rayOf s) (array (volumeOf s)) = m ∙ most-same (λ o. r o .from) (λ o. entersAt (line s o) (rest (rayOf s) o) 0 (line s o .n)) first in
-      let to : f .to ≡ stop (rayOf s) (array (volumeOf s)) = l ∙ rw (d, least-same (λ o. r o .to) (λ o. leavesAt (line s o) (rest (rayOf s) o) 0 (line s o .n)) last) refl in
+      let from : f .from ≡ fromOf s = m ∙ most-same (λ o. r o .from) (enterAll s) (λ o. rw (← rests o) (reached o .from-is)) in
+      let to : f .to ≡ toOf s = l ∙ rw (d, least-same (λ o. r o .to) (leaveAll s) (λ o. rw (← rests o) (reached o .to-is))) refl in
       record {
         rests = rests;
         denominator-is = d;

@@ -19,12 +19,12 @@ Jump still unit x = Unit {0}
 
 jump : (w : Way) (unit x base i : ℕ) → Jump w unit x → Left w i → base + i * unit + unit < 2 ^ 64 → (base + i * unit + x) % 2 ^ 64 ≡ base + onward w i * unit
 jump up unit x base i j l h = mod-eq-of-lt (omega arith) ∙ omega (arith, add-mul i 1 unit, one-mul unit)
-jump down unit x base zero j l h = absurd (omega (arith, l .down-some refl))
+jump down unit x base zero j l h = absurd (omega arith)
 jump down unit x base (suc i) j l h =
     let e : base + suc i * unit + x ≡ (base + i * unit) + 2 ^ 64 = omega (arith, suc-mul i unit) in
     let back : suc i - 1 ≡ i = omega arith in
     rw (e, back) (add-mod-right (base + i * unit) (2 ^ 64) ∙ mod-eq-of-lt (omega (arith, suc-mul i unit)))
-jump still unit x base i j l h = absurd (l .moves refl)
+jump still unit x base i j l h = absurd l
 
 -- one axis' part in a turn
 hopped : (b : Bool) (w : Way) (unit x base i : ℕ) → Jump w unit x → (b ≡ true → Left w i) → base + i * unit + unit < 2 ^ 64

@@ -6,7 +6,6 @@ pub mod Found
 pub mod Frames
 pub mod Plans
 pub mod SetOut
-pub mod Missed
 pub mod Alphas
 pub mod Counts
 pub mod Once

@@ -9,7 +9,7 @@ use borrow.Author.Tests.{leb-false, not-true, not-false}
 use lib.Dec.{leb}
 use Rattle.axis.specs.Leg.{factor}
 use Rattle.axis.proofs.Flag.{or-left, or-right}
-use Rattle.ray.specs.Length.{Side, X, Y, Z, leg, rest, dOf, array, holds, start, stop, misses, partOf, crosses, crossedOf}
+use Rattle.ray.specs.Length.{Side, X, Y, Z, leg, rest, dOf, array, holds, misses, partOf, crosses, crossedOf}
 use Rattle.ray.proofs.Capped.{rest-pos}
 use Rattle.ray.proofs.Way.{Way, up, down, still, Goes}
 use Rattle.line.specs.declared.line.Line.{Line}
@@ -20,7 +20,7 @@ use Rattle.line.proofs.Three.{each, most-le, le-most, least-le, most-mono}
 use Rattle.line.proofs.Stretch.{going, enter-whole}
 use Rattle.line.proofs.Steps.{stride}
 use Rattle.line.proofs.Sizes.{two-sizes, three-sizes, factor-size}
-use Rattle.line.proofs.Scenes.{way, leg-is, enter, leave, all-held}
+use Rattle.line.proofs.Scenes.{way, leg-is, leave, all-held, fromOf, toOf, enterIn, enterAll, leaveAll}
 use Rattle.walk.specs.declared.steps.Walk.{Walk}
 use Rattle.walk.specs.declared.steps.Strides.{Strides}
 use Rattle.walk.specs.declared.plan.Frame.{Frame}
@@ -63,23 +63,23 @@ module _ {s : Scene} (able : Able s) where
     step-few o = three-sizes (able .sized o .d-size) (few o)
 
     module _ (hit : f .hit ≡ true) where
-      missed-not : (leb (stop (rayOf s) (array (volumeOf s))) (start (rayOf s) (array (volumeOf s))) || not (holds (rayOf s) (array (volumeOf s)))) ≡ false
+      missed-not : (leb (toOf s) (fromOf s) || not (holds (rayOf s) (array (volumeOf s)))) ≡ false
       unfolding misses
       missed-not = not-true _ (sym (framed .hit-is) ∙ hit)
 
       pub proper : f .from < f .to
-      proper = rw (framed .from-is, framed .to-is) (leb-false _ _ (or-left (leb (stop (rayOf s) (array (volumeOf s))) (start (rayOf s) (array (volumeOf s)))) _ missed-not))
+      proper = rw (framed .from-is, framed .to-is) (leb-false _ _ (or-left (leb (toOf s) (fromOf s)) _ missed-not))
 
       held-all : holds (rayOf s) (array (volumeOf s)) ≡ true
-      held-all = not-false _ (or-right (leb (stop (rayOf s) (array (volumeOf s))) (start (rayOf s) (array (volumeOf s)))) _ missed-not)
+      held-all = not-false _ (or-right (leb (toOf s) (fromOf s)) _ missed-not)
 
       -- a tick of the window is one on every axis
       pub windows : (o : Side) (t : ℕ) → f .from ≤ t → t < f .to → Window (line s o) (restOf f o) t
       windows o t a b = rw (framed .rests o) (record {
         some = rest-pos (rayOf s) o;
         holds = all-held (λ x. heldAt (line s x) 0 (line s x .n)) held-all o;
-        since = le-trans (le-most (λ x. enter s x 0 (line s x .n)) o) (rw (framed .from-is) at a);
-        until = lt-of-lt-of-le (under-least (dOf (rayOf s)) t _ (rw (framed .to-is) at b)) (least-le (λ x. leave s x 0 (line s x .n)) o);
+        since = le-trans (le-most (enterAll s) o) (rw (framed .from-is) at a);
+        until = lt-of-lt-of-le (under-least (dOf (rayOf s)) t _ (rw (framed .to-is) at b)) (least-le (leaveAll s) o);
       })
 
       -- what `index` asks at the first tick, and `crossed` at the first and the last
@@ -100,8 +100,8 @@ module _ {s : Scene} (able : Able s) where
         walking = record {
           within = inside;
           leaves = λ o. rw (← framed .rests o) (begun .leaves-at o);
-          newest = le-antisymm (most-le (λ o. enter s o (at o) (at o + 1)) (w .t) (λ o. inside o .since))
-              (le-trans (le-of-eq (begun .tick ∙ framed .from-is)) (most-mono (λ o. enter s o 0 (line s o .n)) _ (λ o. enter-whole (line s o) (rest (rayOf s) o) (at o) (begun .within o .inside))));
+          newest = le-antisymm (most-le (enterIn s at) (w .t) (λ o. inside o .since))
+              (le-trans (le-of-eq (begun .tick ∙ framed .from-is)) (most-mono (enterAll s) _ (λ o. enter-whole (line s o) (rest (rayOf s) o) (at o) (begun .within o .inside))));
           numbers = begun .number;
         }
 
@@ -124,7 +124,7 @@ module _ {s : Scene} (able : Able s) where
 
           pub planned : (crossed : ℕ) → crossed ≡ crossedOf (volumeOf s) (rayOf s) → Planned s (f .to) (record { walk = w; strides = t; crossed = crossed })
           planned crossed e =
-              let f′ : Forward t (stop (rayOf s) (array (volumeOf s))) w = rw (framed .to-is) at forward in
+              let f′ : Forward t (toOf s) w = rw (framed .to-is) at forward in
               let vs = found-list able paced walking f′ (begun .tick ∙ framed .from-is) in
               record {
                 forward = forward;
@@ -133,9 +133,9 @@ module _ {s : Scene} (able : Able s) where
                 crossed-is = e;
               }
 
-pub crossed-all : {s : Scene} {f : Frame} (a b c : ℕ) → Framed s f → f .hit ≡ true
-    → a ≡ crossedOn (s .x) (f .cx) (f .from) (f .to) → b ≡ crossedOn (s .y) (f .cy) (f .from) (f .to) → c ≡ crossedOn (s .z) (f .cz) (f .from) (f .to)
-    → a + b + c ≡ crossedOf (volumeOf s) (rayOf s)
+-- the planes crossed, axis by axis
+pub crossed-all : {s : Scene} {f : Frame} (n : Side → ℕ) → Framed s f → f .hit ≡ true → ((o : Side) → n o ≡ crossedOn (line s o) (restOf f o) (f .from) (f .to))
+    → n X + n Y + n Z ≡ crossedOf (volumeOf s) (rayOf s)
 unfolding crosses crossedOf
-crossed-all {s} a b c framed hit ea eb ec =
-    rw (ea, eb, ec, framed .rests X, framed .rests Y, framed .rests Z, framed .from-is, framed .to-is, not-true (misses (volumeOf s) (rayOf s)) (sym (framed .hit-is) ∙ hit)) refl
+crossed-all {s} n framed hit e =
+    rw (e X, e Y, e Z, framed .rests X, framed .rests Y, framed .rests Z, framed .from-is, framed .to-is, not-true (misses (volumeOf s) (rayOf s)) (sym (framed .hit-is) ∙ hit)) refl

@@ -1,12 +1,13 @@
 -- Every scene that is hit has a walk, which sets out where the ray comes into the array. So what walks are known to give holds of
--- ray's definitions, with no walk in the statement. Assumes nothing.
+-- ray's definitions, with no walk in the statement; and on its way the ray crosses fewer planes of an axis than there are voxels.
+-- Assumes nothing.
 use Prim.Native.Nat.{ℕ, _+_, _-_, _*_, _^_, _≤_, _<_}
 use mathlib.Core.Path.{_≡_, refl}
 use mathlib.Core.Bool.{true, false, not, cond}
 use native.Mathlib.Omega.{arith}
 use lib.Dec.{ltb}
 use borrow.Author.Tests.{lt-ltb, le-ltb}
-use Rattle.ray.specs.Length.{Side, X, Y, Z, rest, dOf, array, start, stop, misses, crossedOf}
+use Rattle.ray.specs.Length.{Side, X, Y, Z, rest, dOf, misses, crossedOf}
 use Rattle.line.specs.declared.scene.Scene.{Scene}
 use Rattle.line.specs.Scene.{line, volumeOf, rayOf, Able, leavesAt, Within}
 use Rattle.line.specs.Reach.{crossedOn}
@@ -15,7 +16,7 @@ use Rattle.line.proofs.Stretch.{going}
 use Rattle.line.proofs.Steps.{indexBy, index-within}
 use Rattle.line.proofs.Sizes.{leave-ticks}
 use Rattle.line.proofs.Crossing.{crossed-is}
-use Rattle.line.proofs.Scenes.{way}
+use Rattle.line.proofs.Scenes.{way, fromOf, toOf}
 use Rattle.walk.specs.declared.steps.Walk.{Walk}
 use Rattle.walk.specs.declared.steps.Strides.{Strides}
 use Rattle.walk.specs.declared.plan.Frame.{Frame}
@@ -30,8 +31,8 @@ pub record SetOut (s : Scene) : Type 0 where
   pub strides : Strides
   pub on : Walking s walk at
   pub pace : Paced s strides
-  pub ahead : Forward strides (stop (rayOf s) (array (volumeOf s))) walk
-  pub tick : walk .t ≡ start (rayOf s) (array (volumeOf s))
+  pub ahead : Forward strides (toOf s) walk
+  pub tick : walk .t ≡ fromOf s
 
 -- the definitions themselves make a frame
 abbrev frame : Scene → Frame
@@ -40,20 +41,17 @@ frame s = record {
   cy = rest (rayOf s) Y;
   cz = rest (rayOf s) Z;
   denominator = dOf (rayOf s);
-  from = start (rayOf s) (array (volumeOf s));
-  to = stop (rayOf s) (array (volumeOf s));
+  from = fromOf s;
+  to = toOf s;
   hit = not (misses (volumeOf s) (rayOf s));
 }
 
 framed : (s : Scene) → Framed s (frame s)
 framed s = record { rests = each _ refl refl refl; denominator-is = refl; from-is = refl; to-is = refl; hit-is = refl }
 
--- one voxel on, and one back
-abbrev jump : (p q u : ℕ) → ℕ
-jump p q u = cond (ltb p q) u (2 ^ 64 - u)
-
-jumps : (p q u : ℕ) → u ≤ 2 ^ 64 → (p < q → jump p q u ≡ u) × (q ≤ p → jump p q u + u ≡ 2 ^ 64)
-jumps p q u h = ((λ k. rw (lt-ltb p q k) refl), (λ k. rw (le-ltb p q k) (omega arith)))
+-- one voxel on, or one back
+abbrev jump : Scene → Side → ℕ
+jump s o = cond (ltb (line s o .p) (line s o .q)) (unit (volumeOf s) o) (2 ^ 64 - unit (volumeOf s) o)
 
 module _ {s : Scene} (able : Able s) where
   abbrev strides : Strides
@@ -61,21 +59,19 @@ module _ {s : Scene} (able : Able s) where
     dx = s .x .d * frame s .cx;
     dy = s .y .d * frame s .cy;
     dz = s .z .d * frame s .cz;
-    vx = jump (s .x .p) (s .x .q) (unit (volumeOf s) X);
-    vy = jump (s .y .p) (s .y .q) (unit (volumeOf s) Y);
-    vz = jump (s .z .p) (s .z .q) (unit (volumeOf s) Z);
+    vx = jump s X;
+    vy = jump s Y;
+    vz = jump s Z;
   }
 
-  jumps-at : (o : Side) → (line s o .p < line s o .q → jump (line s o .p) (line s o .q) (unit (volumeOf s) o) ≡ unit (volumeOf s) o)
-      × (line s o .q ≤ line s o .p → jump (line s o .p) (line s o .q) (unit (volumeOf s) o) + unit (volumeOf s) o ≡ 2 ^ 64)
-  jumps-at o = jumps (line s o .p) (line s o .q) (unit (volumeOf s) o) (omega (arith, unit-few able o))
+  on-up : (o : Side) → line s o .p < line s o .q → jump s o ≡ unit (volumeOf s) o
+  on-up o k = rw (lt-ltb (line s o .p) (line s o .q) k) refl
+
+  on-down : (o : Side) → line s o .q ≤ line s o .p → jump s o + unit (volumeOf s) o ≡ 2 ^ 64
+  on-down o k = rw (le-ltb (line s o .p) (line s o .q) k) (omega (arith, unit-few able o))
 
   pacing : Strided s (frame s) strides
-  pacing = record {
-    ticks = each _ refl refl refl;
-    upward = each _ (jumps-at X .0) (jumps-at Y .0) (jumps-at Z .0);
-    downward = each _ (jumps-at X .1) (jumps-at Y .1) (jumps-at Z .1);
-  }
+  pacing = record { ticks = each _ refl refl refl; upward = each _ (on-up X) (on-up Y) (on-up Z); downward = each _ (on-down X) (on-down Y) (on-down Z) }
 
   module _ (hit : misses (volumeOf s) (rayOf s) ≡ false) where
     hits : frame s .hit ≡ true
@@ -139,4 +135,4 @@ module _ {s : Scene} (able : Able s) where
         (crossed-is (line s o) (restOf (frame s) o) (able .sized o) (frame s .from) (frame s .to) _ _ (first-within o) last some)
 
     pub few-planes : crossedOf (volumeOf s) (rayOf s) + 3 ≤ s .x .n + s .y .n + s .z .n
-    few-planes = omega (arith, on-few X, on-few Y, on-few Z, crossed-all (on X) (on Y) (on Z) (framed s) hits refl refl refl)
+    few-planes = omega (arith, on-few X, on-few Y, on-few Z, crossed-all on (framed s) hits (λ o. refl))

@@ -6,14 +6,14 @@ use mathlib.Core.Bool.{Bool, true, false, cond}
 use native.Mathlib.Omega.{arith}
 use native.Mathlib.Nat.{le-antisymm, le-of-eq, le-trans, lt-of-lt-of-le, lt-of-le-of-lt, mod-eq-of-lt}
 use lib.Dec.{eqb}
-use borrow.Author.Tests.{eq-eqb, eqb-true, eqb-false}
-use Rattle.ray.specs.Length.{Side, rest, dOf, count, array, index, voxel, start, stop, partOf}
+use borrow.Author.Tests.{lt-leb, eq-eqb, eqb-true, eqb-false}
+use Rattle.ray.specs.Length.{Side, X, Y, Z, rest, dOf, count, index, voxel, start, stop, partOf, misses}
 use Rattle.ray.proofs.Indices.{number, index-number, number-below, index-below, index-same}
 use Rattle.line.specs.declared.scene.Scene.{Scene}
-use Rattle.line.specs.Scene.{line, Able, Within}
+use Rattle.line.specs.Scene.{line, Able, heldAt, Within}
 use Rattle.line.proofs.Three.{most, least, most-le, le-most, least-le, least-one, lt-least, least-mono, most-mono, most-same, least-same}
-use Rattle.line.proofs.Stretch.{onward, Left, Next, next as next-voxel, enter-whole, leave-whole, one-voxel}
-use Rattle.line.proofs.Scenes.{vol, ray, way, enter, leave, Held, met, part-met}
+use Rattle.line.proofs.Stretch.{onward, Left, Next, next as next-voxel, enter-whole, leave-whole, held-whole, one-voxel}
+use Rattle.line.proofs.Scenes.{vol, ray, way, leave, met, part-met, fromOf, toOf, enterIn, leaveIn, enterAll, leaveAll}
 use Rattle.walk.specs.declared.steps.Walk.{Walk}
 use Rattle.walk.specs.declared.steps.Strides.{Strides}
 use Rattle.walk.specs.Model.{leaveOf, stepOf, jumpOf, soonest, next, stepped}
@@ -32,8 +32,8 @@ Inside s t at = (o : Side) → Within (line s o) (rest (ray s) o) t (at o)
 
 pub record Walking (s : Scene) (w : Walk) (at : Side → ℕ) : Type 0 where
   pub within : Inside s (w .t) at
-  pub leaves : (o : Side) → leaveOf w o ≡ leave s o (at o) (at o + 1)
-  pub newest : most (λ o. enter s o (at o) (at o + 1)) ≡ w .t
+  pub leaves : (o : Side) → leaveOf w o ≡ leaveIn s at o
+  pub newest : most (enterIn s at) ≡ w .t
   pub numbers : w .v ≡ number (vol s) at
 
 pub under-least : (d t l : ℕ) → t < min d l → t < l
@@ -44,14 +44,12 @@ cut-le d l = omega arith
 
 module _ (s : Scene) (m : ℕ) (h : m < count (vol s)) where
   -- every voxel's stretch lies within the array's
-  pub start-late : start (ray s) (array (vol s)) ≤ start (ray s) (voxel (vol s) m)
-  start-late = most-mono (λ o. enter s o 0 (line s o .n)) (λ o. enter s o (index (vol s) m o) (index (vol s) m o + 1))
-      (λ o. enter-whole (line s o) (rest (ray s) o) (index (vol s) m o) (index-below (vol s) m h o))
+  pub start-late : fromOf s ≤ start (ray s) (voxel (vol s) m)
+  start-late = most-mono (enterAll s) (enterIn s (index (vol s) m)) (λ o. enter-whole (line s o) (rest (ray s) o) (index (vol s) m o) (index-below (vol s) m h o))
 
-  pub stop-soon : stop (ray s) (voxel (vol s) m) ≤ stop (ray s) (array (vol s))
+  pub stop-soon : stop (ray s) (voxel (vol s) m) ≤ toOf s
   stop-soon = both (dOf (ray s)) _ _
-      (least-mono (λ o. leave s o (index (vol s) m o) (index (vol s) m o + 1)) (λ o. leave s o 0 (line s o .n))
-      (λ o. leave-whole (line s o) (rest (ray s) o) (index (vol s) m o) (index-below (vol s) m h o)))
+      (least-mono (leaveIn s (index (vol s) m)) (leaveAll s) (λ o. leave-whole (line s o) (rest (ray s) o) (index (vol s) m o) (index-below (vol s) m h o)))
     where
       both : (d x y : ℕ) → x ≤ y → min d x ≤ min d y
       both d x y h = omega arith
@@ -61,17 +59,23 @@ module _ (s : Scene) (m : ℕ) (h : m < count (vol s)) where
   through t p a b o = record {
     inside = index-below (vol s) m h o;
     holds = met s m p .whole o;
-    since = le-trans (le-most (λ x. enter s x (index (vol s) m x) (index (vol s) m x + 1)) o) a;
-    until = lt-of-lt-of-le (under-least (dOf (ray s)) t _ b) (least-le (λ x. leave s x (index (vol s) m x) (index (vol s) m x + 1)) o);
+    since = le-trans (le-most (enterIn s (index (vol s) m)) o) a;
+    until = lt-of-lt-of-le (under-least (dOf (ray s)) t _ b) (least-le (leaveIn s (index (vol s) m)) o);
   }
+
+  -- and so a ray that has a part in it hits
+  pub part-hits : 0 < partOf (vol s) (ray s) m → misses (vol s) (ray s) ≡ false
+  unfolding misses
+  part-hits p =
+      let k = met s m p .proper in
+      let proper : fromOf s < toOf s = omega (arith, start-late, stop-soon) in
+      let held : (o : Side) → heldAt (line s o) 0 (line s o .n) ≡ true = λ o. held-whole (line s o) (index (vol s) m o) (index-below (vol s) m h o) (met s m p .whole o) in
+      rw (lt-leb (toOf s) (fromOf s) proper, held X, held Y, held Z) refl
 
 module _ {s : Scene} (able : Able s) {w : Walk} {at : Side → ℕ} (on : Walking s w at) where
   -- ---- the voxel that the walk is in
   abbrev here : ℕ
   here = number (vol s) at
-
-  abbrev to : ℕ
-  to = stop (ray s) (array (vol s))
 
   inside : (o : Side) → at o < line s o .n
   inside o = on .within o .inside
@@ -83,33 +87,30 @@ module _ {s : Scene} (able : Able s) {w : Walk} {at : Side → ℕ} (on : Walkin
   here-below = number-below (vol s) at inside
 
   pub here-start : start (ray s) (voxel (vol s) here) ≡ w .t
-  here-start = most-same (λ o. enter s o (index (vol s) here o) (index (vol s) here o + 1)) (λ o. enter s o (at o) (at o + 1)) (λ o. rw (there o) refl) ∙ on .newest
+  here-start = most-same (enterIn s (index (vol s) here)) (enterIn s at) (λ o. rw (there o) refl) ∙ on .newest
 
   here-stop : stop (ray s) (voxel (vol s) here) ≡ min (dOf (ray s)) (soonest w)
-  here-stop = ap (min (dOf (ray s))) (least-same (λ o. leave s o (index (vol s) here o) (index (vol s) here o + 1)) (leaveOf w) (λ o. rw (there o) (sym (on .leaves o))))
-
-  here-held : (o : Side) → Held s o (index (vol s) here o)
-  here-held o = rw (there o) (on .within o .holds)
+  here-stop = ap (min (dOf (ray s))) (least-same (leaveIn s (index (vol s) here)) (leaveOf w) (λ o. rw (there o) (sym (on .leaves o))))
 
   pub soon-later : w .t < soonest w
   soon-later = lt-least (leaveOf w) (w .t) (λ o. rw (on .leaves o) (on .within o .until))
 
-  pub to-d : to ≤ dOf (ray s)
-  to-d = cut-le (dOf (ray s)) (least (λ o. leave s o 0 (line s o .n)))
+  pub to-d : toOf s ≤ dOf (ray s)
+  to-d = cut-le (dOf (ray s)) (least (leaveAll s))
 
   here-part : partOf (vol s) (ray s) here ≡ min (dOf (ray s)) (soonest w) - w .t
-  here-part = rw (part-met s here here-held, here-stop, here-start) refl
+  here-part = rw (part-met s here (λ o. rw (there o) (on .within o .holds)), here-stop, here-start) refl
 
   -- up to the next plane, or to where the ray leaves the array
-  pub part-more : soonest w < to → partOf (vol s) (ray s) here ≡ soonest w - w .t
+  pub part-more : soonest w < toOf s → partOf (vol s) (ray s) here ≡ soonest w - w .t
   part-more h = here-part ∙ ap (λ (x : ℕ). x - w .t) (less (dOf (ray s)) (soonest w) (omega (arith, to-d)))
     where
       less : (d u : ℕ) → u ≤ d → min d u ≡ u
       less d u h = omega arith
 
-  pub part-last : to ≤ soonest w → partOf (vol s) (ray s) here ≡ to - w .t
+  pub part-last : toOf s ≤ soonest w → partOf (vol s) (ray s) here ≡ toOf s - w .t
   part-last h =
-      here-part ∙ ap (λ (x : ℕ). x - w .t) (le-antisymm (rw here-stop at (stop-soon s here here-below)) (both (dOf (ray s)) (soonest w) to to-d h))
+      here-part ∙ ap (λ (x : ℕ). x - w .t) (le-antisymm (rw here-stop at (stop-soon s here here-below)) (both (dOf (ray s)) (soonest w) (toOf s) to-d h))
     where
       both : (d u x : ℕ) → x ≤ d → x ≤ u → x ≤ min d u
       both d u x h k = omega arith
@@ -133,7 +134,7 @@ module _ {s : Scene} (able : Able s) {w : Walk} {at : Side → ℕ} (on : Walkin
   number-kept = rw (on .numbers) (mod-eq-of-lt (omega (arith, number-small (vol s) (λ o. able .sized o .n-size) at inside)))
 
   -- ---- a turn
-  module _ {t : Strides} (paced : Paced s t) (more : soonest w < to) where
+  module _ {t : Strides} (paced : Paced s t) (more : soonest w < toOf s) where
     abbrev flag : Side → Bool
     flag o = eqb (leaveOf w o) (soonest w)
 
@@ -143,12 +144,12 @@ module _ {s : Scene} (able : Able s) {w : Walk} {at : Side → ℕ} (on : Walkin
     abbrev pub onAt : Side → ℕ
     onAt o = go o (flag o)
 
-    leave-less : (o : Side) → leaveOf w o ≡ soonest w → leave s o (at o) (at o + 1) < leave s o 0 (line s o .n)
+    leave-less : (o : Side) → leaveOf w o ≡ soonest w → leaveIn s at o < leaveAll s o
     leave-less o e =
         lt-of-le-of-lt (rw (on .leaves o) at (le-of-eq e))
-        (lt-of-lt-of-le (under-least (dOf (ray s)) (soonest w) _ more) (least-le (λ x. leave s x 0 (line s x .n)) o))
+        (lt-of-lt-of-le (under-least (dOf (ray s)) (soonest w) _ more) (least-le (leaveAll s) o))
 
-    leave-some : (o : Side) → 0 < leave s o (at o) (at o + 1)
+    leave-some : (o : Side) → 0 < leaveIn s at o
     leave-some o = omega (arith, on .within o .until)
 
     pub next-at : (o : Side) → leaveOf w o ≡ soonest w → Next (way s o) (line s o) (rest (ray s) o) (at o)
@@ -191,13 +192,13 @@ module _ {s : Scene} (able : Able s) {w : Walk} {at : Side → ℕ} (on : Walkin
         rw (on .numbers)
         (all-over (vol s) (λ o. able .sized o .n-size) (way s) at flag (jumpOf t) (paced .jumps) (λ o e. next-at o (eqb-true (leaveOf w o) (soonest w) e) .left) inside (λ o. kept o .within .inside))
 
-    fresh : (o : Side) → leaveOf w o ≡ soonest w → enter s o (onAt o) (onAt o + 1) ≡ soonest w
+    fresh : (o : Side) → leaveOf w o ≡ soonest w → enterIn s onAt o ≡ soonest w
     fresh o e = rw (eq-eqb (leaveOf w o) (soonest w) e) (next-at o e .enters ∙ sym (on .leaves o) ∙ e)
 
-    newest-on : most (λ o. enter s o (onAt o) (onAt o + 1)) ≡ soonest w
+    newest-on : most (enterIn s onAt) ≡ soonest w
     newest-on =
         let o = least-one (leaveOf w) in
-        le-antisymm (most-le _ (soonest w) (λ x. kept x .within .since)) (le-trans (le-of-eq (sym (fresh (o .0) (o .1)))) (le-most (λ x. enter s x (onAt x) (onAt x + 1)) (o .0)))
+        le-antisymm (most-le _ (soonest w) (λ x. kept x .within .since)) (le-trans (le-of-eq (sym (fresh (o .0) (o .1)))) (le-most (enterIn s onAt) (o .0)))
 
     pub walking-on : Walking s (stepped t w) onAt
     walking-on = record {

@@ -1,4 +1,5 @@
 use Rattle.ray.specs.Length.{X, Y, Z}
+use Rattle.line.proofs.Three.{each}
 use Rattle.walk.proofs.Plans.{at-both, crossed-all}
 use borrow.Author.Needs.{needs}
 use Rattle.walk.proofs.plan.crossed_of.Statement.{statement}
@@ -22,7 +23,8 @@ add-result-2 c = search needs
 returns : tie.Need-returns
 returns c =
     let p = c .before .before .before .before .before .before .pre in
-    crossed-all _ _ _ (p .1) (p .2) (c .before .before .crossed .ensures .0) (c .before .crossed2 .ensures .0) (c .crossed3 .ensures .0)
+    crossed-all (each _ (c .before .before .crossed .result) (c .before .crossed2 .result) (c .crossed3 .result)) (p .1) (p .2)
+    (each _ (c .before .before .crossed .ensures .0) (c .before .crossed2 .ensures .0) (c .crossed3 .ensures .0))
 
 pub crossed-of-spec : {M : Type 1} → statement M
 crossed-of-spec =

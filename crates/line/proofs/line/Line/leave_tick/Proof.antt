@@ -1,9 +1,10 @@
 use Prim.Native.Nat.{ℕ, _+_, _*_, _^_, _≤_}
-use mathlib.Core.Path.{_≡_, ap, _∙_}
+use mathlib.Core.Path.{_≡_, _∙_}
 use native.Mathlib.Omega.{arith}
 use Rattle.axis.specs.Leg.{leaves}
 use Rattle.line.specs.declared.line.Line.{Line}
-use Rattle.line.specs.Scene.{legN, slabN, plane, leavesAt}
+use Rattle.line.specs.Scene.{legN, plane, leavesAt}
+use Rattle.line.proofs.Units.{slab-same}
 use Rattle.line.proofs.Sizes.{leave-ticks}
 use borrow.Author.Needs.{needs}
 use Rattle.line.proofs.line.Line.leave_tick.Statement.{statement}
@@ -21,10 +22,7 @@ module _ (c : tie.After-leave) where
   i = start .args .i
 
   so : c .leave .result * start .args .c ≡ leavesAt a (start .args .c) i (i + 1)
-  so =
-      c .leave .ensures (start .args .c)
-      ∙ ap (λ (lo : ℕ). leaves (start .args .c) (legN (a .p) (a .q)) (slabN lo (c .before .plane2 .result))) (c .before .before .plane .ensures)
-      ∙ ap (λ (hi : ℕ). leaves (start .args .c) (legN (a .p) (a .q)) (slabN (plane a i) hi)) (c .before .plane2 .ensures)
+  so = c .leave .ensures (start .args .c) ∙ slab-same (leaves (start .args .c) (legN (a .p) (a .q))) (c .before .before .plane .ensures) (c .before .plane2 .ensures)
 
   few : c .leave .result * start .args .c ≤ 2 ^ 60
   few = rw so (leave-ticks a (start .pre .0) (omega arith) (omega (arith, start .pre .2)) (start .pre .1))

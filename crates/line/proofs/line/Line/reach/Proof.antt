@@ -1,9 +1,10 @@
-use Prim.Native.Nat.{ℕ, _*_, _^_, _≤_}
-use mathlib.Core.Path.{_≡_, ap, _∙_}
+use Prim.Native.Nat.{_*_, _^_, _≤_}
+use mathlib.Core.Path.{_≡_, _∙_}
 use native.Mathlib.Omega.{arith}
 use Rattle.axis.specs.Leg.{Slab, enters, leaves, held}
 use Rattle.line.specs.declared.line.Line.{Line}
 use Rattle.line.specs.Scene.{legN, slabN, plane, entersAt, leavesAt}
+use Rattle.line.proofs.Units.{slab-same}
 use Rattle.line.proofs.Sizes.{enter-ticks, leave-ticks}
 use borrow.Author.Needs.{needs}
 use Rattle.line.proofs.line.Line.reach.Statement.{statement}
@@ -19,9 +20,7 @@ module _ (c : tie.After-held) where
 
   -- the two planes are those that the code asked for
   between : {A : Type 0} (f : Slab → A) → f (slabN (c .before .before .before .before .plane .result) (c .before .before .before .plane2 .result)) ≡ f (slabN (plane a 0) (plane a (a .n)))
-  between f =
-      ap (λ (lo : ℕ). f (slabN lo (c .before .before .before .plane2 .result))) (c .before .before .before .before .plane .ensures)
-      ∙ ap (λ (hi : ℕ). f (slabN (plane a 0) hi)) (c .before .before .before .plane2 .ensures)
+  between f = slab-same f (c .before .before .before .before .plane .ensures) (c .before .before .before .plane2 .ensures)
 
   enters-so : c .before .before .enter .result * start .args .c ≡ entersAt a (start .args .c) 0 (a .n)
   enters-so = c .before .before .enter .ensures (start .args .c) ∙ between (enters (start .args .c) (legN (a .p) (a .q)))
