@@ -10,7 +10,7 @@ use lib.Dec.{T, le→leb}
 use borrow.Author.Tests.{le-ltb}
 use Rattle.axis.specs.Leg.{Leg}
 use Rattle.axis.proofs.Shift.{shift, Low, shift-is}
-use Rattle.ray.proofs.MovedAxis.{le-sign, diff-on}
+use Rattle.ray.proofs.MovedAxis.{le-on}
 use Rattle.ray.proofs.Through.{sub-times}
 use Rattle.ray.proofs.Told.{neg-diff}
 use Rattle.line.proofs.Units.{abs-gap}
@@ -41,7 +41,7 @@ diff-times a b c = elim (decLe b a) [
 pub diff-order : {y z : ℤ} (a b c : ℕ) → y ≡ pos a -ℤ pos c → z ≡ pos b -ℤ pos c → a ≤ b → T (leZ y z)
 diff-order a b c e f h =
     let o = negℤ (pos c) in
-    rw (e, f, le-sign (pos a +ℤ o) (pos b +ℤ o) ∙ ap nonNeg (diff-on o (pos b) (pos a)) ∙ sym (le-sign (pos a) (pos b))) (le→leb a b h)
+    rw (e, f, le-on o (pos a) (pos b)) (le→leb a b h)
 
 -- a coordinate told from -k up
 pub told : (k : ℕ) (z : ℤ) → Low k z → z ≡ pos (shift k z) -ℤ pos k

@@ -58,22 +58,22 @@ module _ (m : Limits) (g : Grid) (r : Ray) where
     moved = raised.moved m g r (ok .grid) (ok .ends)
 
     box : (o : Side) → array (volumeOf s) o ≡ slabOn (pos (m .coord)) (array v o)
-    box = array-moved (pos (m .coord)) v (volumeOf s) r (rayOf s) moved
+    box = array-moved moved
 
     pub d-same : dOf (rayOf s) ≡ dOf r
-    d-same = d-moved (pos (m .coord)) v (volumeOf s) r (rayOf s) moved
+    d-same = d-moved moved
 
     pub start-same : start (rayOf s) (array (volumeOf s)) ≡ start r (array v)
-    start-same = start-moved (pos (m .coord)) v (volumeOf s) r (rayOf s) moved (array v) (array (volumeOf s)) box
+    start-same = start-moved moved (array v) box
 
     pub stop-same : stop (rayOf s) (array (volumeOf s)) ≡ stop r (array v)
-    stop-same = stop-moved (pos (m .coord)) v (volumeOf s) r (rayOf s) moved (array v) (array (volumeOf s)) box
+    stop-same = stop-moved moved (array v) box
 
     pub holds-same : holds (rayOf s) (array (volumeOf s)) ≡ holds r (array v)
-    holds-same = holds-moved (pos (m .coord)) v (volumeOf s) r (rayOf s) moved (array v) (array (volumeOf s)) box
+    holds-same = holds-moved moved (array v) box
 
     misses-same : misses (volumeOf s) (rayOf s) ≡ misses v r
-    misses-same = misses-moved (pos (m .coord)) v (volumeOf s) r (rayOf s) moved
+    misses-same = misses-moved moved
 
   pub crossed : refusalOf m g r ≡ 0 → crossingOf m g r ≡ throughOf s
   unfolding crossingOf

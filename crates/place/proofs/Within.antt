@@ -98,7 +98,7 @@ module _ (s : Scene) (t : ℕ) where
         between (w .0) (record {
           goes = w .1;
           whole = ap (λ (f : ℕ). f * n) (sym (factor-is (w .0) (a .p) (a .q) (w .1))) ∙ sym share;
-          held = held-by (w .0) (a .p) (a .q) (plane a 0) (plane a (a .n)) (w .1) (all-held s (λ o. held (l o) (v o)) holding o);
+          held = held-by (w .0) (a .p) (a .q) (plane a 0) (plane a (a .n)) (w .1) (all-held (λ o. held (l o) (v o)) holding o);
           some = first-pos _ n (lt-of-lt-of-le some (le-trans out (le-of-eq out-ticks)));
           after = le-trans (le-of-eq (sym in-ticks)) (le-trans (le-most (λ o. enters (rest r o) (l o) (v o)) o) after);
           until = le-trans until (le-trans out (le-of-eq out-ticks));
