@@ -9,7 +9,7 @@ use lib.IntN.{pos}
 use lib.Dec.{ltb, lit<, lit≤}
 use borrow.Author.Tests.{lt-ltb, le-ltb}
 use Rattle.axis.specs.Leg.{Leg, moving, factor, run, Slab, enters, leaves}
-use Rattle.ray.specs.Length.{Side, X, Y, Z, leg, dOf, rest, array, start, stop}
+use Rattle.ray.specs.Length.{Side, X, Y, Z, dOf, rest, array, start, stop}
 use Rattle.ray.proofs.Way.{Way, up, down, still, way, factor-pos}
 use Rattle.ray.proofs.Capped.{d-pos, d-side}
 use Rattle.ray.proofs.Fraction as ray
