@@ -10,7 +10,7 @@ use lib.Dec.{T, le→leb}
 use borrow.Author.Tests.{le-ltb}
 use Rattle.axis.specs.Leg.{Leg}
 use Rattle.axis.proofs.Shift.{shift, Low, shift-is}
-use Rattle.ray.proofs.MovedAxis.{le-on}
+use Rattle.ray.proofs.MovedAxis.{le-on, diff-on}
 use Rattle.ray.proofs.Through.{sub-times}
 use Rattle.ray.proofs.Told.{neg-diff}
 use Rattle.line.proofs.Units.{abs-gap}

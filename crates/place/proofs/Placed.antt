@@ -54,7 +54,7 @@ module _ (m : Limits) (g : Grid) (r : Ray) (small : Small m) where
 
   pub place-is : placed (crossingOf m g r) ≡ placeOf m g r
   unfolding placeOf
-  place-is = answer-is m g r small placed hitting (λ e l H. rw (nearest-is (exact _ (H .enters .at) refl), nearest-is (exact _ (H .leaves .at) refl)))
+  place-is = answer-is m g r small placed hitting (λ e l H. rw (nearest-is (exact (H .enters .at) refl), nearest-is (exact (H .leaves .at) refl)))
 
   from-found : (k : Crossing) (enter leave : Float) → crossingOf m g r ≡ k → placed k ≡ place.Hit enter leave → Shown enter leave
   from-found (Refused c) enter leave h p = let z : _≡_ {A = ℕ} 0 1 = cc in absurd (omega arith)
