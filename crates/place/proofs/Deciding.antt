@@ -1,8 +1,8 @@
 -- The fraction that decides αmin is αmin: over the axis' own difference it is what start is over D, and so for αmax. Assumes nothing.
-use Prim.Native.Nat.{ℕ, _*_, _≤_, _<_, min, max, zero-le}
+use Prim.Native.Nat.{ℕ, _*_, _^_, _≤_, _<_, min, max, zero-le}
 use mathlib.Core.Path.{_≡_, refl, sym, ap, _∙_}
 use mathlib.Core.Bool.{Bool, true, false, cond}
-use native.Mathlib.Nat.{le-of-mul-le-mul-right, mul-le-mul-right, mul-comm, mul-assoc, mul-one, one-mul, zero-mul, le-refl}
+use native.Mathlib.Nat.{le-of-mul-le-mul-right, mul-le-mul-right, mul-comm, mul-assoc, mul-one, one-mul, zero-mul}
 use native.Mathlib.Omega.{arith}
 use native.Mathlib.Decide.{decLt}
 use lib.IntN.{pos}
@@ -10,13 +10,15 @@ use lib.Dec.{ltb, lit<, lit≤}
 use borrow.Author.Tests.{lt-ltb, le-ltb}
 use Rattle.axis.specs.Leg.{Leg, moving, factor, run, Slab, enters, leaves}
 use Rattle.ray.specs.Length.{Side, X, Y, Z, leg, dOf, rest, array, start, stop}
-use Rattle.ray.proofs.Way.{factor-pos}
+use Rattle.ray.proofs.Way.{Way, up, down, still, way, factor-pos}
 use Rattle.ray.proofs.Capped.{d-pos, d-side}
 use Rattle.ray.proofs.Fraction as ray
 use Rattle.line.specs.declared.line.Line.{Line}
 use Rattle.line.specs.declared.scene.Scene.{Scene}
 use Rattle.line.specs.Scene.{legN, slabN, plane, line, rayOf, volumeOf, Sized, Able}
-use Rattle.line.proofs.Sizes.{factor-size, enter-size, leave-size}
+use Rattle.line.proofs.Units.{enterBy, leaveBy, enters-is, leaves-is}
+use Rattle.line.proofs.Stretch.{plane-mono}
+use Rattle.line.proofs.Sizes.{factor-size}
 use Rattle.line.proofs.Scenes.{leg-is}
 use Rattle.place.specs.declared.fraction.Fraction.{Fraction}
 use Rattle.place.specs.Deciding.{Short, over, stretchOf, below, greater, lesser, αmin, αmax}
@@ -62,12 +64,21 @@ module _ (l : Leg) (s : Slab) (n : ℕ) where
   leaves-by : leaves 1 l s * n ≡ leaves n l s
   leaves-by = scale (moving l) (max (run l (s .lo)) (run l (s .hi))) n 1 n (one-mul n)
 
+-- units of one axis are no more than its coordinates
+few : (w : Way) {p lo hi : ℕ} → p ≤ 2 ^ 20 → lo ≤ hi → hi ≤ 2 ^ 20 → (enterBy w p lo hi ≤ 2 ^ 20) × (leaveBy w p lo hi ≤ 2 ^ 20)
+few up h k m = (omega arith, omega arith)
+few down h k m = (omega arith, omega arith)
+few still h k m = (omega arith, omega arith)
+
 pub short : (a : Line) → Sized a → Short (stretchOf a .enter) × Short (stretchOf a .leave)
 short a sized =
-    let l = legN (a .p) (a .q) in
-    let s = slabN (plane a 0) (plane a (a .n)) in
+    let w = way (a .p) (a .q) in
+    let rise = plane-mono a {i = 0} {j = a .n} zero-le in
+    let most = few (w .0) (sized .p-size) rise (sized .far-size) in
+    let from = enters-is (w .0) (a .p) (a .q) (plane a 0) (plane a (a .n)) 1 (w .1) rise in
+    let to = leaves-is (w .0) (a .p) (a .q) (plane a 0) (plane a (a .n)) 1 (w .1) rise in
     let den = factor-size a sized in
-    ((enter-size a sized {i = 0} {j = a .n} zero-le (le-refl _) _ (enters-by l s), den), (leave-size a sized {i = 0} {j = a .n} zero-le (le-refl _) _ (leaves-by l s), den))
+    ((omega (arith, from, most .0), den), (omega (arith, to, most .1), den))
 
 -- αmin and αmax of a scene
 abbrev pub enter : Scene → Fraction

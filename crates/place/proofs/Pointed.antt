@@ -88,7 +88,7 @@ module _ (m : Limits) (g : Grid) (r : Ray) where
           let to = le-of-eq (sym (stop-same m g r (H .ok))) in
           let some = lt-of-lt-of-le (lt-of-le-of-lt zero-le (H .strict)) to in
           let from = le-trans (le-of-eq (start-same m g r (H .ok))) after in
-          let here = within s (holds-same m g r (H .ok) ∙ H .held) t some from (le-trans until to) o in
+          let here = within s t (holds-same m g r (H .ok) ∙ H .held) some from (le-trans until to) o in
           subst (λ (x : Line). In x (dOf r)) (line-is o) (subst (λ (d : ℕ). In (line s o) d) (d-same m g r (H .ok)) here)
 
       abbrev InPlanes : Side → Slab → Type 0

@@ -6,7 +6,7 @@ use native.Mathlib.Nat.{lt-irrefl, mul-pos, mul-one, zero-lt-suc}
 use native.Mathlib.Omega.{arith}
 use native.Mathlib.Decide.{decLt}
 use mathlib.Core.Bool.{Bool, true, false, _&&_, _||_, cond}
-use lib.IntN.{ℤ, pos, negsuc, negℤ, _*ℤ_}
+use lib.IntN.{ℤ, pos, negsuc, negℤ, natAbs, _*ℤ_, negℤ-negℤ, pos-ne-negsuc}
 use lib.Signed.{leZ}
 use lib.Dec.{T, ltb, eqb, leb→le, lit<}
 use lib.Count.{trailingZeros}
@@ -22,14 +22,11 @@ use Rattle.place.proofs.Shown.{zero64, ZeroPlain, zero-plain}
 
 -- equal fractions, y / b and z / d
 not-same : (m n : ℕ) → 0 < n → pos m ≡ negℤ (pos n) → ⊥
-not-same m (suc n) p e = let z : _≡_ {A = ℕ} 0 1 = cc in omega arith
+not-same m (suc n) p e = pos-ne-negsuc m n e
 not-same m zero p e = lt-irrefl 0 p
 
 neg-same : (m n : ℕ) → negℤ (pos m) ≡ negℤ (pos n) → m ≡ n
-neg-same zero zero e = refl
-neg-same zero (suc n) e = let z : _≡_ {A = ℕ} 0 1 = cc in absurd (omega arith)
-neg-same (suc m) zero e = let z : _≡_ {A = ℕ} 0 1 = cc in absurd (omega arith)
-neg-same (suc m) (suc n) e = let z : m ≡ n = cc in ap suc z
+neg-same m n e = ap natAbs (sym (negℤ-negℤ (pos m)) ∙ ap negℤ e ∙ negℤ-negℤ (pos n))
 
 pub nearest-same : (y z : ℤ) (b d : ℕ) → 0 < b → 0 < d → y *ℤ pos d ≡ z *ℤ pos b → nearest y b ≡ nearest z d
 nearest-same (pos a) (pos c) b d B D e = round-same binary64 false a b c d B D (let h : a * d ≡ c * b = cc in h)

@@ -1,21 +1,23 @@
 -- A place of the ray that is in the array is between the planes of every axis: over numbers without a sign. Assumes nothing.
-use Prim.Native.Nat.{ℕ, _+_, _-_, _*_, _^_, _≤_, _<_}
+use Prim.Native.Nat.{ℕ, _+_, _-_, _*_, _^_, _≤_, _<_, zero-le}
 use mathlib.Core.Path.{_≡_, sym, ap, _∙_}
 use mathlib.Core.Bool.{true}
 use native.Mathlib.Nat.{mul-le-mul-right, mul-le-mul-left, mul-comm, mul-assoc, mul-left-comm, mul-sub, add-mul, le-refl, le-trans, le-of-eq, le-of-lt, lt-of-lt-of-le, min-le-left, min-le-right}
 use native.Mathlib.Omega.{arith}
 use lib.Ieee.Positive.{first-pos}
-use Rattle.axis.specs.Leg.{factor, held}
-use Rattle.ray.specs.Length.{Side, leg, dOf, rest, array, start, stop, holds}
-use Rattle.ray.proofs.Way.{Way, up, down, still, Goes, factorBy}
+use Rattle.axis.specs.Leg.{Leg, Slab, factor, held, enters, leaves}
+use Rattle.ray.specs.declared.Ray.{Ray}
+use Rattle.ray.specs.Length.{Side, dOf, rest, array, start, stop, holds}
+use Rattle.ray.proofs.Way.{Way, up, down, still, Goes, way, factorBy}
 use Rattle.ray.proofs.Through.{sub-times}
 use Rattle.ray.proofs.Capped.{d-side}
 use Rattle.line.specs.declared.scene.Scene.{Scene}
-use Rattle.line.specs.Scene.{legN, plane, line}
-use Rattle.line.proofs.Units.{enterBy, leaveBy, HeldBy, factor-is}
+use Rattle.line.specs.Scene.{legN, plane, line, volumeOf, rayOf}
+use Rattle.line.proofs.Units.{enterBy, leaveBy, HeldBy, factor-is, enters-is, leaves-is, held-by}
 use Rattle.line.proofs.Sizes.{two-sizes}
 use Rattle.line.proofs.Three.{le-most, least-le}
-use Rattle.line.proofs.Scenes.{vol, ray, way, going, leg-is, enter, leave, start-array, stop-array, all-held, held-there}
+use Rattle.line.proofs.Stretch.{plane-mono}
+use Rattle.line.proofs.Scenes.{leg-is, all-held}
 use Rattle.place.specs.declared.fraction.Fraction.{Fraction}
 use Rattle.place.specs.Deciding.{OnRay}
 
@@ -72,23 +74,36 @@ module _ {lo hi p q n t d : ℕ} where
       (omega (arith, at, mul-le-mul-right d (i .held .0)), omega (arith, at, mul-le-mul-right d (le-of-lt (i .held .1))))
 
 -- a place of the ray that is in the array
-module _ (s : Scene) (holding : holds (ray s) (array (vol s)) ≡ true) (t : ℕ)
-    (some : 0 < stop (ray s) (array (vol s))) (after : start (ray s) (array (vol s)) ≤ t) (until : t ≤ stop (ray s) (array (vol s))) where
-  pub within : (o : Side) → Between (plane (line s o) 0) (plane (line s o) (line s o .n)) (line s o .p) (line s o .q) t (dOf (ray s))
-  within o =
-      let a = line s o in
-      let out : stop (ray s) (array (vol s)) ≤ leave s o 0 (a .n) =
-      le-trans (le-of-eq (stop-array s)) (le-trans (min-le-right (dOf (ray s)) _) (least-le (λ o. leave s o 0 (line s o .n)) o)) in
-      let share : dOf (ray s) ≡ factor (legN (a .p) (a .q)) * rest (ray s) o = rw (leg-is s o) at (d-side (ray s) o) in
-      between (way s o) (record {
-        goes = going s o;
-        whole = ap (λ (f : ℕ). f * rest (ray s) o) (sym (factor-is (way s o) (a .p) (a .q) (going s o))) ∙ sym share;
-        held = held-there s o 0 (a .n) (all-held s (λ o. held (leg (ray s) o) (array (vol s) o)) holding o);
-        some = first-pos _ (rest (ray s) o) (lt-of-lt-of-le some out);
-        after = le-trans (le-most (λ o. enter s o 0 (line s o .n)) o) (le-trans (le-of-eq (sym (start-array s))) after);
-        until = le-trans until out;
-        most = le-trans until (min-le-left (dOf (ray s)) _);
-      })
+module _ (s : Scene) (t : ℕ) where
+  abbrev v : Side → Slab
+  v = array (volumeOf s)
+
+  abbrev r : Ray
+  r = rayOf s
+
+  abbrev l : Side → Leg
+  l o = legN (line s o .p) (line s o .q)
+
+  module _ (holding : holds r v ≡ true) (some : 0 < stop r v) (after : start r v ≤ t) (until : t ≤ stop r v) where
+    pub within : (o : Side) → Between (plane (line s o) 0) (plane (line s o) (line s o .n)) (line s o .p) (line s o .q) t (dOf r)
+    within o =
+        let a = line s o in
+        let w = way (a .p) (a .q) in
+        let n = rest r o in
+        let rise = plane-mono a {i = 0} {j = a .n} zero-le in
+        let in-ticks = enters-is (w .0) (a .p) (a .q) (plane a 0) (plane a (a .n)) n (w .1) rise in
+        let out-ticks = leaves-is (w .0) (a .p) (a .q) (plane a 0) (plane a (a .n)) n (w .1) rise in
+        let out : stop r v ≤ leaves n (l o) (v o) = le-trans (min-le-right (dOf r) _) (least-le (λ o. leaves (rest r o) (l o) (v o)) o) in
+        let share : dOf r ≡ factor (l o) * n = rw (leg-is s o) at (d-side r o) in
+        between (w .0) (record {
+          goes = w .1;
+          whole = ap (λ (f : ℕ). f * n) (sym (factor-is (w .0) (a .p) (a .q) (w .1))) ∙ sym share;
+          held = held-by (w .0) (a .p) (a .q) (plane a 0) (plane a (a .n)) (w .1) (all-held s (λ o. held (l o) (v o)) holding o);
+          some = first-pos _ n (lt-of-lt-of-le some (le-trans out (le-of-eq out-ticks)));
+          after = le-trans (le-of-eq (sym in-ticks)) (le-trans (le-most (λ o. enters (rest r o) (l o) (v o)) o) after);
+          until = le-trans until (le-trans out (le-of-eq out-ticks));
+          most = le-trans until (min-le-left (dOf r) _);
+        })
 
 -- the same place of the ray, told over another whole
 over : (p q t d c : ℕ) → spot p q t d * c ≡ p * (d * c - t * c) + q * (t * c)
