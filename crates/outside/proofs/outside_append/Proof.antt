@@ -33,12 +33,10 @@ returns : tie.Need-returns
 returns c =
     let k = c .before .before .before .before .before .before .before .before .before .before .before in
     let s = k .before .before .before .before .before .before in
-    let f = s .fits in
-    let g = k .before .grid-of .ensures ∙ grid-again (f .bx) (f .by) (f .bz) in
-    let r = k .ray-of .ensures ∙ ray-again (f .px) (f .py) (f .pz) (f .qx) (f .qy) (f .qz) in
+    let g = k .before .grid-of .ensures ∙ grid-again (s .fits .bx) (s .fits .by) (s .fits .bz) in
+    let r = k .ray-of .ensures ∙ ray-again (s .fits .px) (s .fits .py) (s .fits .pz) (s .fits .qx) (s .fits .qy) (s .fits .qz) in
     let t = c .before .before .before .before .before .before .before .before .append .ensures in
-    rw (← g, ← r)
-    (record {
+    rw (← g, ← r) (record {
       code-is = ap (λ (u : Trace). u .code) (t .answer);
       voxels-now = t .voxels-now;
       parts-now = t .parts-now;

@@ -37,16 +37,13 @@ returns : tie.Need-returns
 returns c =
     let k = c .before .before .before .before .before .before .before .before .before .before in
     let s = k .before .before .before .before in
-    let a = s .args in
-    let f = s .fits in
-    let g = k .before .grid-of .ensures ∙ grid-again (f .bx) (f .by) (f .bz) in
-    let r = k .ray-of .ensures ∙ ray-again (f .px) (f .py) (f .pz) (f .qx) (f .qy) (f .qz) in
+    let g = k .before .grid-of .ensures ∙ grid-again (s .fits .bx) (s .fits .by) (s .fits .bz) in
+    let r = k .ray-of .ensures ∙ ray-again (s .fits .px) (s .fits .py) (s .fits .pz) (s .fits .qx) (s .fits .qy) (s .fits .qz) in
     let e = c .before .before .before .before .before .before .before .before .before .points .ensures .0 in
-    rw (← g, ← r)
-    (record {
+    rw (← g, ← r) (record {
       code-is = c .code-in .ensures ∙ ap (λ (u : Points). markCode (u .mark)) e;
-      mark-now = c .before .before .before .put-mark .ensures ∙ ap (λ (u : Points). put (markOf (u .mark) ∷ []) (a .mark .now)) e;
-      floats-now = c .before .before .before .before .before .before .before .put-points .ensures ∙ ap (λ (u : Points). put (floatsOf u) (a .floats .now)) e;
+      mark-now = c .before .before .before .put-mark .ensures ∙ ap (λ (u : Points). put (markOf (u .mark) ∷ []) (s .args .mark .now)) e;
+      floats-now = c .before .before .before .before .before .before .before .put-points .ensures ∙ ap (λ (u : Points). put (floatsOf u) (s .args .floats .now)) e;
     })
 
 pub outside-points-spec : {M : Type 1} → statement M

@@ -12,10 +12,7 @@ same-length : tie.Need-same-length
 same-length c = search needs
 
 returns : tie.Need-returns
-returns c =
-    let k = c .before .before .before .before in
-    let a = k .before .before .args in
-    taken (sixOf (a .t)) (a .answer .now) _ (k .if1 .taken) (c .before .before .put-six .ensures)
+returns c = let a = c .before .before .before .before .before .before .args in taken (sixOf (a .t)) (a .answer .now) _ (c .before .before .before .before .if1 .taken) (c .before .before .put-six .ensures)
 
 returns-2 : tie.Need-returns-2
 returns-2 c = let a = c .before .before .args in left (sixOf (a .t)) (a .answer .now) (c .if1 .left)
