@@ -9,7 +9,8 @@ use Rattle.text.specs.Numbers.{every}
 use Rattle.text.specs.Word.{same}
 use Rattle.text.specs.Line.{spaced, lineOf}
 use Rattle.job.specs.Rays.{traced, passed, cells, rayText}
-use Rattle.job.specs.Line.{numbersStep, lineStep}
+use Rattle.load.specs.Line.{numbersRead, lineRead}
+use Rattle.job.specs.Line.{lineStep}
 use Rattle.job.specs.Job.{linesFrom, jobFrom, jobOf}
 
 -- a line of the input or of the output on each line here
@@ -25,7 +26,7 @@ pub example : jobOf (
     ++ (67 ∷ 69 ∷ 76 ∷ 76 ∷ 32 ∷ 49 ∷ 32 ∷ 49 ∷ 32 ∷ 48 ∷ 32 ∷ 49 ∷ 48 ∷ 48 ∷ 10 ∷ [])
     ++ (67 ∷ 69 ∷ 76 ∷ 76 ∷ 32 ∷ 50 ∷ 32 ∷ 49 ∷ 32 ∷ 48 ∷ 32 ∷ 50 ∷ 48 ∷ 48 ∷ 10 ∷ [])
     ++ (69 ∷ 78 ∷ 68 ∷ 32 ∷ 49 ∷ 10 ∷ [])
-unfolding partOf misses spanOf insert listTo listOf total sumOf crosses crossedOf split digitsOf decimal digits naturalOf hasMinus integerOf every same spaced lineOf traced passed cells rayText numbersStep lineStep linesFrom jobFrom jobOf
+unfolding partOf misses spanOf insert listTo listOf total sumOf crosses crossedOf split digitsOf decimal digits naturalOf hasMinus integerOf every same spaced lineOf traced passed cells rayText numbersRead lineRead lineStep linesFrom jobFrom jobOf
 example = refl
 
 -- an empty input ends before the last DENS: BAD 1 22

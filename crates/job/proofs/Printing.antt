@@ -11,8 +11,7 @@ use Rattle.ray.specs.declared.Ray.{Ray}
 use Rattle.ray.specs.Length.{Volume, volume, partOf}
 use Rattle.tracing.specs.declared.Trace.{Trace}
 use Rattle.text.specs.Line.{lineOf}
-use Rattle.text.specs.Word.{RAY}
-use Rattle.job.specs.Rays.{traced, passed, figures, cell, cells, rayText}
+use Rattle.job.specs.Rays.{RAY, traced, passed, figures, cell, cells, rayText}
 
 -- the entries from e on are still to be printed behind `to`
 pub record Printing (v : Volume) (voxels parts out₀ : List ℕ) (at : ℕ) (out : List ℕ) (e to : ℕ) : Type 0 where
@@ -21,14 +20,14 @@ pub record Printing (v : Volume) (voxels parts out₀ : List ℕ) (at : ℕ) (ou
   pub kept : length out ≡ length out₀
   pub same : take at out₀ ++ cells v voxels parts ≡ take to out ++ cells v (drop e voxels) (drop e parts)
 
-module _ (v : Volume) (voxels parts out₀ : List ℕ) (at : ℕ) where
+module _ {v : Volume} {voxels parts out₀ : List ℕ} {at : ℕ} where
   pub cells-begin : Printing v voxels parts out₀ at out₀ 0 at
   cells-begin = record { within = omega arith; room = omega arith; kept = refl; same = refl }
 
-  module _ (out : List ℕ) (e to : ℕ) (p : Printing v voxels parts out₀ at out e to) where
-    pub cells-on : (out′ : List ℕ) (to′ : ℕ) → e < length voxels → e < length parts → to′ ≤ to + 89 → length out′ ≡ length out → take to′ out′ ≡ take to out ++ cell v (getD voxels e 0) (getD parts e 0) → Printing v voxels parts out₀ at out′ (e + 1) to′
+  module _ {out : List ℕ} {e to : ℕ} (p : Printing v voxels parts out₀ at out e to) where
+    pub cells-on : {out′ : List ℕ} {to′ : ℕ} → e < length voxels → e < length parts → to′ ≤ to + 89 → length out′ ≡ length out → take to′ out′ ≡ take to out ++ cell v (getD voxels e 0) (getD parts e 0) → Printing v voxels parts out₀ at out′ (e + 1) to′
     unfolding cells
-    cells-on out′ to′ h g r k w = record {
+    cells-on h g r k w = record {
       within = omega arith;
       room = omega (arith, p .room);
       kept = k ∙ p .kept;
@@ -44,6 +43,8 @@ pub first-of : (n : ℕ) (l : List ℕ) → n ≤ 600 → length l ≡ 600 → l
 first-of n l h e = length-take-le n l (omega arith)
 
 -- a RAY line and its CELL lines
-pub ray-printed : {o₁ o₂ voxels parts : List ℕ} {t : Trace} (before : List ℕ) (g : Grid) (densities : List ℕ) (r : Ray) → t ≡ traced g densities r → voxels ≡ passed g r → parts ≡ map (partOf (volume g) r) (passed g r) → o₁ ≡ before ++ lineOf RAY (figures t) → o₂ ≡ o₁ ++ cells (volume g) voxels parts → o₂ ≡ before ++ rayText g densities r
+pub ray-printed : {o₁ o₂ voxels parts : List ℕ} {t : Trace} (before : List ℕ) (g : Grid) (densities : List ℕ) (r : Ray) → t ≡ traced g densities r
+    → voxels ≡ passed g r → parts ≡ map (partOf (volume g) r) (passed g r) → o₁ ≡ before ++ lineOf RAY (figures t) → o₂ ≡ o₁ ++ cells (volume g) voxels parts
+    → o₂ ≡ before ++ rayText g densities r
 unfolding rayText
 ray-printed before g densities r e f h e₁ e₂ = e₂ ∙ rw (e₁, e, f, h) (append-assoc before (lineOf RAY (figures (traced g densities r))) _)

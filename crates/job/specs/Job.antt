@@ -5,8 +5,9 @@ use mathlib.Core.List.{List, [], _∷_, _++_}
 use lib.Dec.{eqb}
 use Rattle.text.specs.Split.{split}
 use Rattle.text.specs.Line.{lineOf}
-use Rattle.job.specs.Stand.{Stand, atFirst, dueAt}
-use Rattle.job.specs.Line.{Step, goes, stops, badLine, lineStep}
+use Rattle.load.specs.Loaded.{dueAt}
+use Rattle.job.specs.Stand.{Stand, atFirst}
+use Rattle.job.specs.Line.{Step, goes, stops, refusal, lineStep}
 
 abbrev pub END : List ℕ
 END = 69 ∷ 78 ∷ 68 ∷ []
@@ -14,8 +15,8 @@ END = 69 ∷ 78 ∷ 68 ∷ []
 -- RULES 10.4 and 10.5, at the input's end: 20 where bytes stand behind the last LF; 22 where DENS lines are still due, at the
 -- line that would have been next; else END with the number of RAY lines
 abbrev pub atEnd : Stand → List ℕ → List ℕ
-atEnd s (b ∷ bs) = badLine (s .lines) 20
-atEnd s [] = cond (eqb (dueAt (s .lines) (s .left)) 2) (lineOf END (s .rays ∷ [])) (badLine (s .lines) 22)
+atEnd s (b ∷ bs) = refusal s 20
+atEnd s [] = cond (eqb (dueAt (s .load .lines) (s .load .left)) 2) (lineOf END (s .rays ∷ [])) (refusal s 22)
 
 -- what a line prints, and then what comes behind it, unless the job stops
 abbrev pub andThen : Step → (Stand → List ℕ) → List ℕ

@@ -11,9 +11,11 @@ use Rattle.ray.specs.Codes.{endRows}
 use Rattle.tracing.specs.declared.Trace.{Trace}
 use Rattle.tracing.specs.Answer.{refused, accepted}
 use Rattle.text.specs.Line.{lineOf}
-use Rattle.text.specs.Word.{RAY}
 
--- the word as bytes
+-- the words as bytes
+abbrev pub RAY : List ℕ
+RAY = 82 ∷ 65 ∷ 89 ∷ []
+
 abbrev pub CELL : List ℕ
 CELL = 67 ∷ 69 ∷ 76 ∷ 76 ∷ []
 

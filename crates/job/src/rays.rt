@@ -6,10 +6,9 @@ ghost use lib.ListN.{length, take};
 ghost use Rattle.ray.specs.Length.{volume, partOf};
 ghost use Rattle.text.specs.Split.{split};
 ghost use Rattle.job.specs.Stand.{standOf};
-ghost use Rattle.job.specs.Numbers.{rayIn};
 ghost use Rattle.job.specs.Rays.{traced, passed, cell, cells, rayText};
-ghost use Rattle.job.specs.Line.{rayStep};
-ghost use Rattle.job.specs.Sound.{Sound, Ready, Kept, stepIs, after, room, Taken};
+ghost use Rattle.job.specs.Line.{rayIn, rayStep};
+ghost use Rattle.job.specs.Sound.{Taken, Sound, Ready, Kept, due, cameTo, after, room};
 ghost use Rattle.job.specs.Read.{readRay};
 use crate::state::Moved;
 use crate::state::State;
@@ -109,22 +108,24 @@ fn put_ray(g: Grid, r: Ray, densities: &[u16], out: &mut [u8], at: usize) -> usi
 }
 
 pub fn take_ray(st: State, line: &[u8], densities: &[u16], out: &mut [u8], at: usize) -> Moved
-    requires { ⌜ Sound st × Ready st at (length (now out)) × (0 < st .lines) × (st .left ≡ 0) × (4096 ≤ length (now densities)) ⌝ }
+    requires { ⌜ Sound st × Ready st at (length (now out)) × (due st ≡ 2) × (4096 ≤ length (now densities)) ⌝ }
     ensures { λ r. ⌜ Kept st at r ⌝ }
-    ensures { λ r. ⌜ stepIs (r .going) (take (r .at) (now (out .exit))) (standOf (r .state) (now (densities .entry))) ≡ after (take at (now (out .entry))) (rayStep (standOf st (now (densities .entry))) (rayIn (split 9 (now (line .entry))))) ⌝ }
+    ensures { λ r. ⌜ cameTo r (now (out .exit)) (now (densities .entry)) ≡ after (take at (now (out .entry))) (rayStep (standOf st (now (densities .entry))) (rayIn (split 9 (now (line .entry))))) ⌝ }
 {
     let read = ray_in(line);
     let RayLine::Ends(r) = read else {
         return st.refuse(24, out, at);
     };
-    let filled = st.filled;
-    let g = st.grid;
+    let load = st.load;
+    let filled = load.filled;
+    let g = load.grid;
     let to = put_ray(g, r, &densities[..filled], out, at);
-    let mut next = st;
-    next.lines = st.lines + 1;
-    next.rays = st.rays + 1;
     Moved {
-        state: next,
+        state: State {
+            load,
+            rays: st.rays + 1,
+            have: st.have,
+        },
         at: to,
         going: true,
     }

@@ -1,12 +1,16 @@
 // The whole job on an input that lies in memory: one promise, bytes in and bytes out.
 ghost use mathlib.Core.Path.{_≡_};
-ghost use Prim.Native.Nat.{_≤_};
+ghost use Prim.Native.Nat.{_+_, _≤_};
 ghost use lib.ListN.{length, take};
+ghost use Rattle.load.specs.Cut.{Begun};
 ghost use Rattle.job.specs.Job.{jobOf};
-ghost use Rattle.job.specs.Sound.{Lent, room};
-ghost use Rattle.job.specs.Read.{written};
+ghost use Rattle.job.specs.Sound.{Sound, Buffers, read, room};
+ghost use Rattle.job.specs.InAll.{lists, Turned};
+ghost use Rattle.job.specs.Read.{written, Wrote};
 use crate::feed::feed;
+use crate::state::Moved;
 use crate::state::State;
+use crate::step::Pumped;
 use crate::step::finish;
 use text::put::put_bytes;
 
@@ -14,6 +18,34 @@ use text::put::put_bytes;
 pub enum Written {
     All(usize),
     Short,
+}
+
+// The next part of the job's output, from the start of answer: what the input from `next` on is
+// answered, or the end of the input.
+fn turn(
+    st: State,
+    line: &mut [u8],
+    input: &[u8],
+    next: usize,
+    densities: &mut [u16],
+    answer: &mut [u8],
+) -> Pumped
+    requires { ⌜ Sound st × Begun (st .have) (now line) × Buffers (length (now line)) (length (now densities)) ⌝ }
+    requires { ⌜ (room ≤ length (now answer)) × (next ≤ length (now input)) × (read st + st .have ≤ next) ⌝ }
+    ensures { λ r. ⌜ Turned (now (input .entry)) st next (lists (now (line .entry)) (now (densities .entry)) (now (answer .entry))) r (lists (now (line .exit)) (now (densities .exit)) (now (answer .exit))) ⌝ }
+{
+    if next < input.len() {
+        return feed(st, line, input, next, densities, answer);
+    }
+    let at = finish(st, answer, 0);
+    Pumped {
+        moved: Moved {
+            state: st,
+            at,
+            going: false,
+        },
+        next,
+    }
 }
 
 // The job's output goes through `answer`, so that it is known to fit before it is put behind the
@@ -25,32 +57,25 @@ fn run(
     answer: &mut [u8],
     out: &mut [u8],
 ) -> Written
-    requires { ⌜ Lent (length (now line)) (length (now densities)) × (room ≤ length (now answer)) ⌝ }
-    ensures { λ r. ⌜ r ≡ written (jobOf (now (input .entry))) (length (now (out .entry))) ⌝ }
-    ensures { λ r. ⌜ (length (jobOf (now (input .entry))) ≤ length (now (out .entry)) → take (length (jobOf (now (input .entry)))) (now (out .exit)) ≡ jobOf (now (input .entry))) ⌝ }
+    requires { ⌜ Buffers (length (now line)) (length (now densities)) × (room ≤ length (now answer)) ⌝ }
+    ensures { λ r. ⌜ Wrote (jobOf (now (input .entry))) (length (now (out .entry))) (now (out .exit)) r ⌝ }
 {
     let mut st = State::new();
     let mut next: usize = 0;
     let mut to: usize = 0;
-    while next < input.len() {
-        let p = feed(st, line, input, next, densities, answer);
+    let mut going = true;
+    while going {
+        let p = turn(st, line, input, next, densities, answer);
         let m = p.moved;
         let n = m.at;
         if out.len() - to < n {
             return Written::Short;
         }
         to = put_bytes(out, to, &answer[..n]);
-        if !m.going {
-            return Written::All(to);
-        }
         st = m.state;
         next = p.next;
+        going = m.going;
     }
-    let n = finish(st, answer, 0);
-    if out.len() - to < n {
-        return Written::Short;
-    }
-    to = put_bytes(out, to, &answer[..n]);
     Written::All(to)
 }
 

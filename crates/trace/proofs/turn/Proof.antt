@@ -55,9 +55,11 @@ slice-aggregate-drain c = search needs
 
 drain-requires : tie.Need-drain-requires
 drain-requires c κs =
-    let s = c .before .before .before .before .before .before .before .before .before .before .before .before .before .before .before .before .before .before in
-    let n = c .before .before .before .before .before .count in
-    (s .pre .0, (s .pre .1 .1, omega (arith, c .before .before .before .before .before .before .before .before .before .before .before .before .if1 .left, n .ensures .0 .0, n .ensures .0 .1, c .before .before .before .before .before .before .before .before .before .before .read .kept .1 .0, s .pre .1 .0)))
+    let n = c .before .before .before .before .before in
+    let r = n .before .before .before .before .before in
+    let p = r .before .before .before .before .before .before .before .before .pre in
+    let few = p .0 .0 .load in
+    (p .0, (p .1 .1, omega (arith, r .before .before .if1 .left, few .early, few .loaded, few .few, n .count .ensures .0 .0, n .count .ensures .0 .1, r .read .kept .1 .0, p .1 .0)))
 
 same-length-4 : tie.Need-same-length-4
 same-length-4 c = search needs
@@ -73,9 +75,9 @@ same-length-7 c = search needs
 
 returns-4 : tie.Need-returns-4
 returns-4 c =
-    let a = c .before .before .before .before .before .before .before .before .before .before .before .before .before .before .before .before .before .before .before .before .before .before .before .before .before .args in
-    let d = c .before .before .before .before .before .before .drain in
-    stands (d .result) (a .st) (a .line .now) (a .densities .now) _ (d .last .1 .0) (d .last .1 .1 .1 .0) (d .ensures)
+    let d = c .before .before .before .before .before .before in
+    let a = d .before .before .before .before .before .before .before .before .before .before .before .before .before .before .before .before .before .before .before .args in
+    stands (d .drain .result) (a .st) (a .line .now) (a .densities .now) _ (d .drain .last .1 .0) (d .drain .last .1 .1 .1 .0) (d .drain .ensures)
 
 pub turn-spec : {M : Type 1} → statement M
 turn-spec =

@@ -2,7 +2,7 @@
 use mathlib.Core.Path.{sym, _∙_}
 use native.Mathlib.Omega.{arith}
 use lib.ListN.{take}
-use Rattle.job.proofs.Taking.{sides}
+use Rattle.load.proofs.Taking.{sides}
 use Rattle.job.proofs.Printing.{first-of, ray-printed}
 use borrow.Author.Needs.{needs}
 use Rattle.job.proofs.rays.put_ray.Statement.{statement}

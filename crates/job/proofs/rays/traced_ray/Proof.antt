@@ -15,10 +15,9 @@ same-length-2 c = search needs
 
 returns : tie.Need-returns
 returns c =
-    let s = c .before .before .before .before .before .before .before .before .before .before in
-    let a = s .args in
     let t = c .before .before .before .before .trace in
-    let so = traced-so (a .g) (a .r) (a .densities .now) (a .voxels .now) (a .parts .now) (s .pre .0) (s .pre .1) (s .pre .2) (t .result) (t .last .1 .1 .1 .0) (t .last .1 .1 .1 .1 .0) (t .ensures .0) (t .ensures .1 .0) (t .ensures .1 .1) in
+    let p = c .before .before .before .before .before .before .before .before .before .before .pre in
+    let so = traced-so (record { answer = t .ensures .0; voxels-now = t .ensures .1 .0; parts-now = t .ensures .1 .1 }) (p .0) (p .1) (p .2) in
     ((so .answer, so .few), (so .voxels-are, so .parts-are))
 
 pub traced-ray-spec : {M : Type 1} → statement M
