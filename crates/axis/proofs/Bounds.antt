@@ -9,7 +9,8 @@ use lib.Dec.{leb, ltb, eqb}
 use borrow.Author.Tests.{leb-true, ltb-false, eqb-false, not-false}
 use Rattle.axis.specs.declared.Axis.{Axis}
 use Rattle.axis.specs.Leg.{planes}
-use Rattle.axis.specs.Codes.{Limits, inside, planesOut}
+use Rattle.axis.specs.declared.Limits.{Limits}
+use Rattle.axis.specs.Codes.{inside, beyond, planesOut}
 use Rattle.axis.proofs.Flag.{holds, is-true, and-left, and-right, or-left, or-right}
 use Rattle.axis.proofs.Shift.{shift, Low, low-pos, shift-order, shift-add, low-add}
 
@@ -38,10 +39,10 @@ module _ (m : Limits) where
     pub near : inside m (a .b) ≡ true
     pub far : shift (m .coord) (a .b) + a .n * a .d ≤ m .coord + m .coord
 
-  within : (most x : ℕ) → (eqb x 0 || ltb most x) ≡ false → (0 < x) × (x ≤ most)
+  within : (most x : ℕ) → beyond most x ≡ false → (0 < x) × (x ≤ most)
   within most x h = let e = eqb-false x 0 (or-left (eqb x 0) _ h) in let l = ltb-false most x (or-right (eqb x 0) _ h) in (omega arith, omega arith)
 
-  pub axis-ok : (a : Axis) → (eqb (a .n) 0 || ltb (m .n) (a .n)) ≡ false → (eqb (a .d) 0 || ltb (m .d) (a .d)) ≡ false → planesOut m a ≡ false → AxisOk a
+  pub axis-ok : (a : Axis) → beyond (m .n) (a .n) ≡ false → beyond (m .d) (a .d) ≡ false → planesOut m a ≡ false → AxisOk a
   axis-ok a hn hd hp =
       let near : inside m (a .b) ≡ true = not-false _ (or-left (not (inside m (a .b))) _ hp) in
       let far : inside m (planes a .at (a .n)) ≡ true = not-false _ (or-right (not (inside m (a .b))) _ hp) in

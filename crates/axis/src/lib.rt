@@ -1,10 +1,10 @@
 // One axis of the density volume: its numbers, its limits, and the check of both.
 ghost use mathlib.Core.Path.{_≡_};
-ghost use mathlib.Core.Bool.{_||_, cond};
-ghost use lib.Dec.{eqb, ltb};
+ghost use mathlib.Core.Bool.{cond};
+ghost use lib.Dec.{eqb};
 ghost use lib.IntN.{pos, _+ℤ_};
 ghost use Rattle.axis.specs.Leg.{natural};
-ghost use Rattle.axis.specs.Codes.{tenths, inside, planesOut, axisCode, checkedAxis, told};
+ghost use Rattle.axis.specs.Codes.{tenths, inside, beyond, planesOut, axisCode, checkedAxis, told};
 
 // n voxels of spacing d from the first plane b on, in units of 0.1 mm. The fields say nothing of the
 // limits: whoever takes an axis checks it.
@@ -12,6 +12,13 @@ pub struct Axis {
     pub n: u32,
     pub d: u32,
     pub b: i32,
+}
+
+// The greatest n and d that a device takes, and how far from 0 a coordinate may lie.
+pub struct Limits {
+    pub n: u32,
+    pub d: u32,
+    pub coord: u32,
 }
 
 // What the checked constructor answers: the axis, or the code that refuses it.
@@ -31,9 +38,20 @@ pub fn raised(c: i32, by: u32) -> u64
 
 // Whether a count or a spacing is 0 or over the most that is taken.
 fn beyond(x: u32, most: u32) -> bool
-    ensures { λ r. ⌜ r ≡ (eqb x 0 || ltb most x) ⌝ }
+    ensures { λ r. ⌜ r ≡ beyond most x ⌝ }
 {
     if x == 0 { true } else { most < x }
+}
+
+impl Limits {
+    // Whether a coordinate is within the limits, both ends included.
+    pub fn holds(self, c: i32) -> bool
+        ensures { λ r. ⌜ r ≡ inside self c ⌝ }
+    {
+        let top = self.coord as i64;
+        let wide = c as i64;
+        -top <= wide && wide <= top
+    }
 }
 
 impl Axis {
@@ -43,22 +61,35 @@ impl Axis {
 
     pub const COORD_MAX: u32 = 16384;
 
-    // Whether a coordinate is within the limits, both ends included.
-    pub fn holds(c: i32) -> bool
-        ensures { λ r. ⌜ r ≡ inside tenths c ⌝ }
+    // The limits of the device whose unit is a tenth of a millimetre.
+    pub const TENTHS: Limits = Limits {
+        n: Axis::COUNT_MAX,
+        d: Axis::SPACING_MAX,
+        coord: Axis::COORD_MAX,
+    };
+
+    // Whether n is out of range.
+    pub fn count_out(self, m: Limits) -> bool
+        ensures { λ r. ⌜ r ≡ beyond (m .n) (self .n) ⌝ }
     {
-        let top = Axis::COORD_MAX as i32;
-        -top <= c && c <= top
+        beyond(self.n, m.n)
+    }
+
+    // Whether d is out of range.
+    pub fn spacing_out(self, m: Limits) -> bool
+        ensures { λ r. ⌜ r ≡ beyond (m .d) (self .d) ⌝ }
+    {
+        beyond(self.d, m.d)
     }
 
     // Whether the first or the far plane is outside its bounds.
-    fn planes_out(self) -> bool
-        ensures { λ r. ⌜ r ≡ planesOut tenths self ⌝ }
+    pub fn planes_out(self, m: Limits) -> bool
+        ensures { λ r. ⌜ r ≡ planesOut m self ⌝ }
     {
         let b = self.b;
-        if Axis::holds(b) {
-            let far = raised(b, Axis::COORD_MAX) + (self.n as u64) * (self.d as u64);
-            let top = 2 * (Axis::COORD_MAX as u64);
+        if m.holds(b) {
+            let far = raised(b, m.coord) + (self.n as u64) * (self.d as u64);
+            let top = 2 * (m.coord as u64);
             top < far
         } else {
             true
@@ -66,16 +97,16 @@ impl Axis {
     }
 
     // The code that refuses the axis by itself, 0 where it is accepted.
-    pub fn code(self) -> u32
-        ensures { λ r. ⌜ r ≡ axisCode tenths self ⌝ }
+    pub fn code(self, m: Limits) -> u32
+        ensures { λ r. ⌜ r ≡ axisCode m self ⌝ }
     {
-        if beyond(self.n, Axis::COUNT_MAX) {
+        if self.count_out(m) {
             return 1;
         }
-        if beyond(self.d, Axis::SPACING_MAX) {
+        if self.spacing_out(m) {
             return 2;
         }
-        if self.planes_out() {
+        if self.planes_out(m) {
             return 3;
         }
         0
@@ -87,7 +118,7 @@ impl Axis {
         ensures { λ r. ⌜ told r .axis ≡ cond (eqb (told r .code) 0) (record { n = n; d = d; b = b }) (record { n = 0; d = 0; b = pos 0 }) ⌝ }
     {
         let a = Axis { n, d, b };
-        let code = a.code();
+        let code = a.code(Axis::TENTHS);
         if code == 0 {
             Checked::Fine(a)
         } else {

@@ -8,7 +8,8 @@ use lib.Dec.{eqb, ltb}
 use borrow.Author.Tests.{not-false}
 use Rattle.axis.specs.declared.Axis.{Axis}
 use Rattle.axis.specs.Leg.{planes, moving, Slab}
-use Rattle.axis.specs.Codes.{Limits, inside, Row, row, first, planesOut, axisCode}
+use Rattle.axis.specs.declared.Limits.{Limits}
+use Rattle.axis.specs.Codes.{inside, Row, row, first, planesOut, axisCode}
 use Rattle.axis.proofs.Flag.{or-left, or-right}
 use Rattle.axis.proofs.Bounds.{AxisOk, axis-ok}
 use Rattle.ray.specs.declared.Grid.{Grid}

@@ -7,7 +7,7 @@ use native.Mathlib.Decide.{ℕ-discrete}
 use native.Mathlib.Omega.{arith}
 use lib.Dec.{eqb, leb}
 use borrow.Author.Tests.{eq-eqb, ne-eqb, eqb-true, leb-false, not-false}
-use Rattle.axis.specs.Codes.{Limits}
+use Rattle.axis.specs.declared.Limits.{Limits}
 use Rattle.axis.proofs.Flag.{lt-not-le, or-left, or-right}
 use Rattle.ray.specs.declared.Grid.{Grid}
 use Rattle.ray.specs.declared.Ray.{Ray}

@@ -11,7 +11,8 @@ use lib.Dec.{T}
 use lib.Ieee.{binary64, le, ofInt}
 use Rattle.axis.specs.declared.Axis.{Axis}
 use Rattle.axis.specs.Leg.{Leg, planes}
-use Rattle.axis.specs.Codes.{Limits, inside}
+use Rattle.axis.specs.declared.Limits.{Limits}
+use Rattle.axis.specs.Codes.{inside}
 use Rattle.axis.proofs.Shift.{shift, low-add}
 use Rattle.axis.proofs.Bounds.{inside-low, AxisOk}
 use Rattle.place.specs.declared.fraction.Fraction.{Fraction}

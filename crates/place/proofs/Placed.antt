@@ -8,7 +8,7 @@ use lib.Ieee.{Float, binary64, round}
 use mathlib.Core.Bool.{false}
 use lib.Ieee.Scale.{round-same}
 use borrow.Author.Tests.{lt-ltb, ltb-true}
-use Rattle.axis.specs.Codes.{Limits}
+use Rattle.axis.specs.declared.Limits.{Limits}
 use Rattle.ray.specs.declared.Grid.{Grid}
 use Rattle.ray.specs.declared.Ray.{Ray}
 use Rattle.ray.specs.Length.{dOf, volume, array, start, stop}

@@ -10,7 +10,7 @@ use lib.Dec.{T}
 use lib.Ieee.{Float, binary64, le, ofInt}
 use lib.Ieee.Positive.{first-pos}
 use Rattle.axis.specs.Leg.{Slab, held, enters, leaves}
-use Rattle.axis.specs.Codes.{Limits}
+use Rattle.axis.specs.declared.Limits.{Limits}
 use Rattle.axis.proofs.Flag.{and-left, and-right}
 use Rattle.ray.specs.declared.Grid.{Grid}
 use Rattle.ray.specs.declared.Ray.{Ray}

@@ -7,7 +7,8 @@ use native.Mathlib.Omega.{arith}
 use native.Mathlib.Decide.{decLt}
 use Rattle.axis.specs.declared.Axis.{Axis}
 use Rattle.axis.specs.Leg.{planes, Leg, Slab}
-use Rattle.axis.specs.Codes.{Limits, inside}
+use Rattle.axis.specs.declared.Limits.{Limits}
+use Rattle.axis.specs.Codes.{inside}
 use Rattle.axis.proofs.Shift.{shift, Low, shift-add, low-add}
 use Rattle.axis.proofs.Bounds.{inside-low, inside-most, AxisOk}
 use Rattle.ray.specs.declared.Grid.{Grid}

@@ -6,7 +6,7 @@ use native.Mathlib.Omega.{arith}
 use lib.Dec.{eqb}
 use lib.Ieee.{Float}
 use borrow.Author.Tests.{eqb-true, eqb-false}
-use Rattle.axis.specs.Codes.{Limits}
+use Rattle.axis.specs.declared.Limits.{Limits}
 use Rattle.ray.specs.declared.Grid.{Grid}
 use Rattle.ray.specs.declared.Ray.{Ray}
 use Rattle.ray.specs.Length.{misses, volume}

@@ -6,7 +6,8 @@ use lib.IntN.{ℤ, pos, negsuc, _+ℤ_, _-ℤ_, _*ℤ_}
 use lib.Dec.{eqb}
 use lib.Ieee.{Float, fin, binary64, round}
 use Rattle.axis.specs.Leg.{Leg}
-use Rattle.axis.specs.Codes.{Limits, first}
+use Rattle.axis.specs.declared.Limits.{Limits}
+use Rattle.axis.specs.Codes.{first}
 use Rattle.ray.specs.declared.Grid.{Grid}
 use Rattle.ray.specs.declared.Ray.{Ray}
 use Rattle.ray.specs.Length.{X, Y, Z, leg, dOf, volume, array, start, stop, misses}

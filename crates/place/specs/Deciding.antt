@@ -4,7 +4,7 @@ use Prim.Native.Nat.{_*_, _^_, _≤_}
 use mathlib.Core.Bool.{Bool, _&&_, cond}
 use lib.Dec.{eqb, ltb}
 use Rattle.axis.specs.Leg.{Leg, factor, Slab, held, enters, leaves}
-use Rattle.axis.specs.Codes.{Limits}
+use Rattle.axis.specs.declared.Limits.{Limits}
 use Rattle.ray.specs.declared.Grid.{Grid}
 use Rattle.ray.specs.declared.Ray.{Ray}
 use Rattle.ray.specs.Length.{Side, X, Y, Z, leg, volume, array}

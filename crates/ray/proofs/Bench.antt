@@ -31,7 +31,7 @@ pub record Line : Type 0 where
 
 unfoldable pub says : Ray → Line
 says r = record {
-  code = first (traceRows tenths grid r 6 4 4 0);
+  code = first (traceRows tenths grid r (record { densities = 6; voxels = 4; parts = 4; filled = 0 }));
   voxels = listOf (volume grid) r;
   parts = map (partOf (volume grid) r) (listOf (volume grid) r);
   crossed = crossedOf (volume grid) r;

@@ -8,7 +8,8 @@ use native.Mathlib.Nat.{zero-mul, mul-pos, mul-lt-mul-of-pos-right, lt-of-mul-lt
 use native.Mathlib.Omega.{arith}
 use native.Mathlib.Decide.{decLt}
 use Rattle.axis.specs.Leg.{moving}
-use Rattle.axis.specs.Codes.{Limits, first}
+use Rattle.axis.specs.declared.Limits.{Limits}
+use Rattle.axis.specs.Codes.{first}
 use Rattle.ray.specs.declared.Grid.{Grid}
 use Rattle.ray.specs.declared.End.{End}
 use Rattle.ray.specs.declared.Ray.{Ray}

@@ -1,5 +1,4 @@
 -- Laws of the ray through the volume, for the crates above.
-pub mod Rows
 pub mod Accepted
 pub mod Once
 pub mod Bench

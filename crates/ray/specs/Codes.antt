@@ -1,29 +1,39 @@
 -- RULES 6, the code table, as a table. Definitions only. Assumes nothing.
 use Prim.Native.Nat.{ℕ, _+_}
-use mathlib.Core.Bool.{Bool, _||_, not}
+use mathlib.Core.Bool.{not}
 use mathlib.Core.List.{List, [], _∷_, _++_}
+use lib.IntN.{ℤ}
 use lib.Dec.{ltb, eqb}
 use lib.ListN.{length}
+use Rattle.axis.specs.declared.Axis.{Axis}
 use Rattle.axis.specs.Leg.{Leg, moving}
-use Rattle.axis.specs.Codes.{Limits, inside, Row, row, axisRows}
+use Rattle.axis.specs.declared.Limits.{Limits}
+use Rattle.axis.specs.Codes.{inside, Row, row, some, each, axisRows}
 use Rattle.ray.specs.declared.Grid.{Grid}
 use Rattle.ray.specs.declared.Ray.{Ray}
+use Rattle.ray.specs.declared.Lent.{Lent}
 use Rattle.ray.specs.Length.{X, Y, Z, leg, volume, count, listOf}
 
+abbrev pub axes : Grid → List Axis
+axes g = g .x ∷ g .y ∷ g .z ∷ []
+
 abbrev pub gridRows : Limits → Grid → List Row
-gridRows m g = axisRows m (λ refuses. refuses (g .x) || (refuses (g .y) || refuses (g .z)))
+gridRows m g = axisRows m (axes g)
+
+abbrev pub ends : Ray → List ℤ
+ends r = r .p .x ∷ r .q .x ∷ r .p .y ∷ r .q .y ∷ r .p .z ∷ r .q .z ∷ []
+
+abbrev pub legs : Ray → List Leg
+legs r = leg r X ∷ leg r Y ∷ leg r Z ∷ []
 
 -- RULES 6: 5, an end beyond the limits on some axis; 6, no axis on which the ends differ
-abbrev pub someLeg : Ray → (Leg → Bool) → Bool
-someLeg r test = test (leg r X) || (test (leg r Y) || test (leg r Z))
-
 abbrev pub endRows : Limits → Ray → List Row
-endRows m r = row 5 (someLeg r (λ l. not (inside m (l .p)) || not (inside m (l .q)))) ∷ row 6 (not (someLeg r moving)) ∷ []
+endRows m r = each 5 (λ c. not (inside m c)) (ends r) ++ (row 6 (not (some moving (legs r))) ∷ [])
 
--- RULES 6, the rows of a trace: those on the grid, 4, those on the ends, 7, and 8 with `filled` places taken (RULES 7)
-abbrev pub traceRows : Limits → Grid → Ray → (densities voxels parts filled : ℕ) → List Row
-traceRows m g r densities voxels parts filled =
-    gridRows m g
-    ++ (row 4 (not (eqb densities (count (volume g)))) ∷ [])
-    ++ endRows m r
-    ++ (row 7 (not (eqb voxels parts)) ∷ row 8 (ltb voxels (filled + length (listOf (volume g) r))) ∷ [])
+-- RULES 6, a trace, codes 1 to 7: those on the grid, 4, those on the ends, 7; then 8 with `filled` places taken (RULES 7)
+abbrev pub frontRows : Limits → Grid → Ray → Lent → List Row
+frontRows m g r l =
+    gridRows m g ++ (row 4 (not (eqb (l .densities) (count (volume g)))) ∷ []) ++ endRows m r ++ (row 7 (not (eqb (l .voxels) (l .parts))) ∷ [])
+
+abbrev pub traceRows : Limits → Grid → Ray → Lent → List Row
+traceRows m g r l = frontRows m g r l ++ (row 8 (ltb (l .voxels) (l .filled + length (listOf (volume g) r))) ∷ [])

@@ -1,47 +1,67 @@
 // The codes that refuse a grid and the ends of a ray, checked in rising order.
 ghost use mathlib.Core.Path.{_≡_};
-ghost use mathlib.Core.Bool.{_||_, not, cond};
-ghost use Prim.Native.Nat.{min};
-ghost use lib.Dec.{eqb};
+ghost use mathlib.Core.Bool.{false, _||_, not};
 ghost use Rattle.axis.specs.Leg.{moving};
-ghost use Rattle.axis.specs.Codes.{tenths, inside, first};
-ghost use Rattle.ray.specs.Codes.{gridRows, someLeg, endRows};
+ghost use Rattle.axis.specs.Codes.{inside, some, beyond, planesOut, first};
+ghost use Rattle.ray.specs.Codes.{axes, ends, legs, gridRows, endRows};
 use crate::Grid;
 use crate::Ray;
-use axis::Axis;
+use axis::Limits;
 
-// The lesser of two codes, where 0 is none.
-fn lesser(a: u32, b: u32) -> u32
-    ensures { λ r. ⌜ r ≡ cond (eqb a 0) b (cond (eqb b 0) a (min a b)) ⌝ }
+fn one_of(x: bool, y: bool, z: bool) -> bool
+    ensures { λ r. ⌜ r ≡ (x || (y || (z || false))) ⌝ }
 {
-    if a == 0 {
-        return b;
-    }
-    if b == 0 {
-        return a;
-    }
-    if a < b { a } else { b }
+    if x { true } else { if y { true } else { z } }
 }
 
-// 1, 2 or 3 where some axis is refused, the least that an axis has by itself; 0 where all are accepted.
-pub fn grid_code(g: Grid) -> u32
-    ensures { λ r. ⌜ r ≡ first (gridRows tenths g) ⌝ }
+fn counts_out(m: Limits, g: Grid) -> bool
+    ensures { λ r. ⌜ r ≡ some (λ a. beyond (m .n) (a .n)) (axes g) ⌝ }
 {
     let x = g.x;
     let y = g.y;
     let z = g.z;
-    lesser(x.code(), lesser(y.code(), z.code()))
+    one_of(x.count_out(m), y.count_out(m), z.count_out(m))
+}
+
+fn spacings_out(m: Limits, g: Grid) -> bool
+    ensures { λ r. ⌜ r ≡ some (λ a. beyond (m .d) (a .d)) (axes g) ⌝ }
+{
+    let x = g.x;
+    let y = g.y;
+    let z = g.z;
+    one_of(x.spacing_out(m), y.spacing_out(m), z.spacing_out(m))
+}
+
+fn planes_out(m: Limits, g: Grid) -> bool
+    ensures { λ r. ⌜ r ≡ some (planesOut m) (axes g) ⌝ }
+{
+    let x = g.x;
+    let y = g.y;
+    let z = g.z;
+    one_of(x.planes_out(m), y.planes_out(m), z.planes_out(m))
+}
+
+// 1, 2 or 3 where some axis is refused; 0 where all are accepted.
+pub fn grid_code(m: Limits, g: Grid) -> u32
+    ensures { λ r. ⌜ r ≡ first (gridRows m g) ⌝ }
+{
+    if counts_out(m, g) {
+        return 1;
+    }
+    if spacings_out(m, g) {
+        return 2;
+    }
+    if planes_out(m, g) {
+        return 3;
+    }
+    0
 }
 
 // Whether one of the ray's two coordinates on an axis is outside its bounds.
-fn leg_out(p: i32, q: i32) -> bool
-    ensures { λ r. ⌜ r ≡ (not (inside tenths p) || not (inside tenths q)) ⌝ }
+fn leg_out(m: Limits, p: i32, q: i32) -> bool
+    ensures { λ r. ⌜ r ≡ (not (inside m p) || not (inside m q)) ⌝ }
 {
-    if Axis::holds(p) {
-        !Axis::holds(q)
-    } else {
-        true
-    }
+    if m.holds(p) { !m.holds(q) } else { true }
 }
 
 fn leg_moves(p: i32, q: i32) -> bool
@@ -50,22 +70,20 @@ fn leg_moves(p: i32, q: i32) -> bool
     if p < q { true } else { q < p }
 }
 
-fn one_of(x: bool, y: bool, z: bool) -> bool
-    ensures { λ r. ⌜ r ≡ (x || (y || z)) ⌝ }
-{
-    if x { true } else { if y { true } else { z } }
-}
-
-fn ends_out(r: Ray) -> bool
-    ensures { λ t. ⌜ t ≡ someLeg r (λ l. not (inside tenths (l .p)) || not (inside tenths (l .q))) ⌝ }
+fn ends_out(m: Limits, r: Ray) -> bool
+    ensures { λ t. ⌜ t ≡ some (λ c. not (inside m c)) (ends r) ⌝ }
 {
     let p = r.p;
     let q = r.q;
-    one_of(leg_out(p.x, q.x), leg_out(p.y, q.y), leg_out(p.z, q.z))
+    one_of(
+        leg_out(m, p.x, q.x),
+        leg_out(m, p.y, q.y),
+        leg_out(m, p.z, q.z),
+    )
 }
 
 fn ends_differ(r: Ray) -> bool
-    ensures { λ t. ⌜ t ≡ someLeg r moving ⌝ }
+    ensures { λ t. ⌜ t ≡ some moving (legs r) ⌝ }
 {
     let p = r.p;
     let q = r.q;
@@ -77,10 +95,10 @@ fn ends_differ(r: Ray) -> bool
 }
 
 // 5 where an end coordinate is outside its bounds, 6 where the ends are equal, 0 where they are accepted.
-pub fn ends_code(r: Ray) -> u32
-    ensures { λ c. ⌜ c ≡ first (endRows tenths r) ⌝ }
+pub fn ends_code(m: Limits, r: Ray) -> u32
+    ensures { λ c. ⌜ c ≡ first (endRows m r) ⌝ }
 {
-    if ends_out(r) {
+    if ends_out(m, r) {
         return 5;
     }
     if ends_differ(r) {

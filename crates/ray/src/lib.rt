@@ -1,4 +1,4 @@
-// The density volume's grid, the ray through it, and the checks of both.
+// The density volume's grid, the ray through it, what a trace is lent, and the checks of grid and ray.
 pub mod check;
 
 use axis::Axis;
@@ -20,4 +20,12 @@ pub struct End {
 pub struct Ray {
     pub p: End,
     pub q: End,
+}
+
+// The lengths of the lists that a trace is lent, and how many places of the last two are taken.
+pub struct Lent {
+    pub densities: usize,
+    pub voxels: usize,
+    pub parts: usize,
+    pub filled: usize,
 }

@@ -8,11 +8,6 @@ use native.Mathlib.Decide.{decLt}
 use borrow.Author.Tests.{lt-ltb, le-ltb}
 use Rattle.text.specs.Decimal.{digitsOf, decimal}
 
--- the greatest number of 64 bits computes
-greatest : decimal 18446744073709551615 ≡ 49 ∷ 56 ∷ 52 ∷ 52 ∷ 54 ∷ 55 ∷ 52 ∷ 52 ∷ 48 ∷ 55 ∷ 51 ∷ 55 ∷ 48 ∷ 57 ∷ 53 ∷ 53 ∷ 49 ∷ 54 ∷ 49 ∷ 53 ∷ []
-unfolding decimal digitsOf
-greatest = refl
-
 digits-one : (k n : ℕ) → n < 10 → digitsOf k n ≡ (48 + n) ∷ []
 unfolding digitsOf
 digits-one zero n h = refl
@@ -29,13 +24,10 @@ one-or-many n f g = elim (decLt n 10) [ yes h ↦ f h | no h ↦ g (omega arith)
 digits-any : (k j n : ℕ) → n ≤ k → n ≤ j → digitsOf k n ≡ digitsOf j n
 digits-any zero j n h g = digits-one zero n (omega arith) ∙ sym (digits-one j n (omega arith))
 digits-any (suc k) zero n h g = digits-one (suc k) n (omega arith) ∙ sym (digits-one zero n (omega arith))
-digits-any (suc k) (suc j) n h g = rest (digits-any k j (n / 10))
-  where
-    rest : (n / 10 ≤ k → n / 10 ≤ j → digitsOf k (n / 10) ≡ digitsOf j (n / 10)) → digitsOf (suc k) n ≡ digitsOf (suc j) n
-    rest alike =
-        one-or-many n
-        (λ w. digits-one (suc k) n w ∙ sym (digits-one (suc j) n w))
-        (λ w. digits-many k n w ∙ ap (λ (l : List ℕ). l ++ (48 + n % 10) ∷ []) (alike (omega arith) (omega arith)) ∙ sym (digits-many j n w))
+digits-any (suc k) (suc j) n h g =
+    one-or-many n
+    (λ w. digits-one (suc k) n w ∙ sym (digits-one (suc j) n w))
+    (λ w. rw (digits-many k n w, digits-many j n w, digits-any k j (n / 10) (omega arith) (omega arith)))
 
 pub decimal-one : (n : ℕ) → n < 10 → decimal n ≡ (48 + n) ∷ []
 unfolding decimal
@@ -43,7 +35,15 @@ decimal-one n h = digits-one n n h
 
 pub decimal-many : (n : ℕ) → 10 ≤ n → decimal n ≡ decimal (n / 10) ++ (48 + n % 10) ∷ []
 unfolding decimal
-decimal-many n h = digits-any n (suc n) n (omega arith) (omega arith) ∙ digits-many n n h ∙ ap (λ (l : List ℕ). l ++ (48 + n % 10) ∷ []) (digits-any n (n / 10) (n / 10) (omega arith) (omega arith))
+decimal-many n h = digits-any n (suc n) n (omega arith) (omega arith) ∙ rw (digits-many n n h, digits-any n (n / 10) (n / 10) (omega arith) (omega arith))
+
+-- what holds of a digit, and of n if of its tens, holds of every number
+pub by-tens : (P : ℕ → Type 0) → ((n : ℕ) → n < 10 → P n) → ((n : ℕ) → 10 ≤ n → P (n / 10) → P n) → (n : ℕ) → P n
+by-tens P one many n = below n n (omega arith)
+  where
+    below : (k m : ℕ) → m ≤ k → P m
+    below zero m h = one m (omega arith)
+    below (suc k) m h = one-or-many m (one m) (λ w. many m w (below k (m / 10) (omega arith)))
 
 pub decimal-snoc : (n d : ℕ) → 0 < n → d < 10 → decimal (n * 10 + d) ≡ decimal n ++ (48 + d) ∷ []
 decimal-snoc n d h g =
@@ -59,27 +59,14 @@ pub record Headed (n : ℕ) : Type 0 where
   pub digit : 48 ≤ first
   pub leading : 0 < n → 48 < first
 
-one-headed : (n : ℕ) → n < 10 → Headed n
-one-headed n w = record { first = 48 + n; others = []; spelt = decimal-one n w; digit = omega arith; leading = λ p. omega arith }
-
-headed-below : (k n : ℕ) → n ≤ k → Headed n
-headed-below zero n h = one-headed n (omega arith)
-headed-below (suc k) n h = go (headed-below k (n / 10))
-  where
-    many : 10 ≤ n → Headed (n / 10) → Headed n
-    many w r = record {
-      first = r .first;
-      others = r .others ++ (48 + n % 10) ∷ [];
-      spelt = decimal-many n w ∙ ap (λ (l : List ℕ). l ++ (48 + n % 10) ∷ []) (r .spelt);
-      digit = r .digit;
-      leading = λ p. r .leading (omega arith);
-    }
-
-    go : (n / 10 ≤ k → Headed (n / 10)) → Headed n
-    go f = one-or-many n (λ w. one-headed n w) (λ w. many w (f (omega arith)))
-
 pub headed : (n : ℕ) → Headed n
-headed n = headed-below n n (omega arith)
+headed = by-tens Headed one many
+  where
+    one : (n : ℕ) → n < 10 → Headed n
+    one n w = record { first = 48 + n; others = []; spelt = decimal-one n w; digit = omega arith; leading = λ p. omega arith }
+
+    many : (n : ℕ) → 10 ≤ n → Headed (n / 10) → Headed n
+    many n w r = record { first = r .first; others = r .others ++ (48 + n % 10) ∷ []; spelt = rw (decimal-many n w, r .spelt); digit = r .digit; leading = λ p. r .leading (omega arith) }
 
 pub length-one : (n : ℕ) → n < 10 → length (decimal n) ≡ 1
 length-one n h = rw (decimal-one n h) refl
@@ -91,27 +78,18 @@ abbrev tens : ℕ → ℕ
 tens zero = 1
 tens (suc k) = 10 * tens k
 
+tens-some : (k : ℕ) → 0 < tens k
+tens-some zero = omega arith
+tens-some (suc k) = omega (arith, tens-some k)
+
 -- at most suc k digits is below 10 ^ suc k
 length-below : (k n : ℕ) → n < 10 * tens k → length (decimal n) ≤ suc k
 length-below zero n h = omega (arith, length-one n (omega arith))
-length-below (suc k) n h = go (length-below k (n / 10))
-  where
-    go : (n / 10 < 10 * tens k → length (decimal (n / 10)) ≤ suc k) → length (decimal n) ≤ suc (suc k)
-    go f = one-or-many n (λ w. omega (arith, length-one n w)) (λ w. omega (arith, length-many n w, f (omega arith)))
+length-below (suc k) n h = one-or-many n (λ w. omega (arith, length-one n w)) (λ w. omega (arith, length-many n w, length-below k (n / 10) (omega arith)))
 
 below-length : (k n : ℕ) → length (decimal n) ≤ suc k → n < 10 * tens k
-below-length zero n h = one-or-many n (λ w. omega arith) (λ w. absurd (omega (arith, length-many n w, some-digit (n / 10))))
-  where
-    some-digit : (m : ℕ) → 0 < length (decimal m)
-    some-digit m = omega (arith, ap length (headed m .spelt))
-below-length (suc k) n h = go (below-length k (n / 10))
-  where
-    go : (length (decimal (n / 10)) ≤ suc k → n / 10 < 10 * tens k) → n < 10 * tens (suc k)
-    go f = one-or-many n (λ w. omega (arith, tens-some k)) (λ w. omega (arith, length-many n w, f (omega (arith, length-many n w))))
-      where
-        tens-some : (j : ℕ) → 0 < tens j
-        tens-some zero = omega arith
-        tens-some (suc j) = omega (arith, tens-some j)
+below-length zero n h = one-or-many n (λ w. omega arith) (λ w. absurd (omega (arith, length-many n w, ap length (headed (n / 10) .spelt))))
+below-length (suc k) n h = one-or-many n (λ w. omega (arith, tens-some k)) (λ w. omega (arith, below-length k (n / 10) (omega (arith, length-many n w))))
 
 -- a number of 64 bits
 pub length-word : (n : ℕ) → n < 2 ^ 64 → length (decimal n) ≤ 20

@@ -1,9 +1,8 @@
 -- Fields read one after the other into a list: what the loops that read the numbers of a line keep. Assumes nothing.
-use mathlib.Core.Bool.{Bool, true, false, cond}
 use Prim.Native.Nat.{ℕ, zero, suc, _+_, _-_, _≤_, _<_}
 use mathlib.Core.List.{List, [], _∷_, _++_, append-assoc, append-nil}
-use mathlib.Core.Option.{Option, none, some, Option·map, Option·none-ne-some, Option·some-injective}
-use mathlib.Core.Path.{_≡_, refl, ap, sym, _∙_, subst}
+use mathlib.Core.Option.{Option, none, some, Option·map, Option·some-injective}
+use mathlib.Core.Path.{_≡_, refl, ap, sym, _∙_}
 use lib.ListN.{length, getD, take, drop, set, length-set}
 use native.Mathlib.Omega.{arith}
 use lib.Dec.{leb}
@@ -11,7 +10,8 @@ use borrow.Author.Tests.{le-leb, lt-leb, leb-true}
 use Rattle.text.specs.Split.{split, until, after}
 use Rattle.text.specs.Number.{naturalOf}
 use Rattle.text.specs.Numbers.{upTo, naturalTo, ahead, every}
-use Rattle.text.proofs.Split.{after-end, next-field, end-within}
+use Rattle.text.proofs.Split.{part, after-end, next-field, end-within}
+use Rattle.text.proofs.Told.{none-some, cond-some}
 use Rattle.text.proofs.Written.{one-put}
 
 -- what was read, and then what is read of the rest
@@ -33,11 +33,11 @@ pub record Reading {A : Type 0} (read : List ℕ → Option A) (s : List ℕ) (k
   pub kept : length out ≡ length out₀
   pub so-far : every read n (drop (k + 1) (split 9 s)) ≡ behind (take j out) (every read (n - j) (after 9 (drop e s)))
 
-module _ {A : Type 0} (read : List ℕ → Option A) (s : List ℕ) (k n : ℕ) (out₀ : List A) where
-  pub reading-begins : (e : ℕ) → e ≤ length s → after 9 (drop e s) ≡ drop (k + 1) (split 9 s) → Reading read s k n out₀ out₀ e 0
-  reading-begins e h rest = record { within = h; few = omega arith; kept = refl; so-far = let all : n - 0 ≡ n = omega arith in rw (all, rest) (behind-nil (every read n (drop (k + 1) (split 9 s)))) }
+module _ {A : Type 0} {read : List ℕ → Option A} {s : List ℕ} {k n : ℕ} {out₀ : List A} where
+  pub reading-begins : {e : ℕ} → e ≤ length s → after 9 (drop e s) ≡ drop (k + 1) (split 9 s) → Reading read s k n out₀ out₀ e 0
+  reading-begins h rest = record { within = h; few = omega arith; kept = refl; so-far = let all : n - 0 ≡ n = omega arith in rw (all, rest) (behind-nil (every read n (drop (k + 1) (split 9 s)))) }
 
-  module _ (out : List A) (e j : ℕ) (r : Reading read s k n out₀ out e j) where
+  module _ {out : List A} {e j : ℕ} (r : Reading read s k n out₀ out e j) where
     pub reading-ends : n ≤ j → some (take n out) ≡ every read n (drop (k + 1) (split 9 s))
     unfolding every
     reading-ends h =
@@ -54,17 +54,20 @@ module _ {A : Type 0} (read : List ℕ → Option A) (s : List ℕ) (k n : ℕ) 
       unfolding every
       reading-short h = sym (r .so-far ∙ rw (one-left, after-end 9 s e h) refl)
 
-      module _ (h : e < length s) (e′ : ℕ) (ends : e′ ≡ e + 1 + until 9 (drop (e + 1) s)) where
-        turn : every read n (drop (k + 1) (split 9 s)) ≡ behind (take j out) (ahead (read (take (e′ - (e + 1)) (drop (e + 1) s))) (every read (n - (j + 1)) (after 9 (drop e′ s))))
+      module _ (h : e < length s) {e′ : ℕ} (ends : e′ ≡ e + 1 + until 9 (drop (e + 1) s)) where
+        pub reading-passed : e′ ≤ length s
+        reading-passed = rw ends (end-within 9 s (e + 1) (omega arith))
+
+        turn : every read n (drop (k + 1) (split 9 s)) ≡ behind (take j out) (ahead (read (part s (e + 1) e′)) (every read (n - (j + 1)) (after 9 (drop e′ s))))
         unfolding every
         turn = r .so-far ∙ rw (one-left, next-field 9 s e e′ h ends) refl
 
-        pub reading-bad : read (take (e′ - (e + 1)) (drop (e + 1) s)) ≡ none → none ≡ every read n (drop (k + 1) (split 9 s))
+        pub reading-bad : read (part s (e + 1) e′) ≡ none → none ≡ every read n (drop (k + 1) (split 9 s))
         reading-bad bad = sym (turn ∙ rw bad refl)
 
-        pub reading-on : (v : A) → read (take (e′ - (e + 1)) (drop (e + 1) s)) ≡ some v → j < length out → Reading read s k n out₀ (set out j v) e′ (j + 1)
-        reading-on v good room = record {
-          within = rw ends (end-within 9 s (e + 1) (omega arith));
+        pub reading-on : {v : A} → read (part s (e + 1) e′) ≡ some v → j < length out → Reading read s k n out₀ (set out j v) e′ (j + 1)
+        reading-on {v} good room = record {
+          within = reading-passed;
           few = omega arith;
           kept = length-set out j v ∙ r .kept;
           so-far = turn ∙ rw (good, one-put out j v room) (behind-ahead (take j out) v (every read (n - (j + 1)) (after 9 (drop e′ s))));
@@ -83,26 +86,20 @@ module _ (most : ℕ) (t : List ℕ) where
   pub to-within : {v : ℕ} → naturalTo most t ≡ some v → v ≤ most
   to-within {v} e = bounded (naturalOf t) e
     where
-      kept-low : (w : ℕ) (b : Bool) → leb w most ≡ b → cond b (some w) none ≡ some v → v ≤ most
-      kept-low w true h f = omega (arith, leb-true w most h, Option·some-injective w v f)
-      kept-low w false h f = absurd (Option·none-ne-some v f)
-
       bounded : (o : Option ℕ) → upTo most o ≡ some v → v ≤ most
-      bounded none f = absurd (Option·none-ne-some v f)
-      bounded (some w) f = kept-low w (leb w most) refl f
+      bounded none f = none-some f
+      bounded (some w) f = let kept = cond-some (leb w most) (some w) f in omega (arith, leb-true w most (kept .0), Option·some-injective w v (kept .1))
 
 -- what holds of every number that can be read holds of all that were
-pub every-holds : {A : Type 0} (read : List ℕ → Option A) (P : A → Type 0) (d : A) → ((t : List ℕ) (v : A) → read t ≡ some v → P v) → (n : ℕ) (fs : List (List ℕ)) {vs : List A} → every read n fs ≡ some vs → (i : ℕ) → i < n → P (getD vs i d)
+pub every-holds : {A : Type 0} (read : List ℕ → Option A) (P : A → Type 0) (d : A) → ((t : List ℕ) (v : A) → read t ≡ some v → P v)
+    → (n : ℕ) (fs : List (List ℕ)) {vs : List A} → every read n fs ≡ some vs → (i : ℕ) → i < n → P (getD vs i d)
 unfolding every
 every-holds read P d holds zero fs e i h = absurd (omega arith)
-every-holds read P d holds (suc n) [] {vs} e i h = absurd (Option·none-ne-some vs e)
-every-holds {A} read P d holds (suc n) (f ∷ fs) {vs} e i h = first (read f) (every read n fs) refl (λ ws q j g. every-holds read P d holds n fs {vs = ws} q j g) e
+every-holds read P d holds (suc n) [] e i h = none-some e
+every-holds {A} read P d holds (suc n) (f ∷ fs) {vs} e i h = first (read f) (every read n fs) refl (λ ws q. every-holds read P d holds n fs {vs = ws} q) e i h
   where
-    at : (v : A) (ws : List A) → read f ≡ some v → ((j : ℕ) → j < n → P (getD ws j d)) → (j : ℕ) → j < suc n → P (getD (v ∷ ws) j d)
-    at v ws p rest zero g = holds f v p
-    at v ws p rest (suc j) g = rest j (omega arith)
-
-    first : (o : Option A) (os : Option (List A)) → read f ≡ o → ((ws : List A) → os ≡ some ws → (j : ℕ) → j < n → P (getD ws j d)) → ahead o os ≡ some vs → P (getD vs i d)
-    first none os p rest r = absurd (Option·none-ne-some vs r)
-    first (some v) none p rest r = absurd (Option·none-ne-some vs r)
-    first (some v) (some ws) p rest r = subst (λ (l : List A). P (getD l i d)) (Option·some-injective (v ∷ ws) vs r) (at v ws p (rest ws refl) i h)
+    first : (o : Option A) (os : Option (List A)) → read f ≡ o → ((ws : List A) → os ≡ some ws → (j : ℕ) → j < n → P (getD ws j d)) → ahead o os ≡ some vs → (j : ℕ) → j < suc n → P (getD vs j d)
+    first none os p rest r j g = none-some r
+    first (some v) none p rest r j g = none-some r
+    first (some v) (some ws) p rest r zero g = rw (← Option·some-injective (v ∷ ws) vs r) (holds f v p)
+    first (some v) (some ws) p rest r (suc j) g = rw (← Option·some-injective (v ∷ ws) vs r) (rest ws refl j (omega arith))

@@ -3,7 +3,7 @@
 use Prim.Native.Nat.{ℕ, zero, suc, _+_, _*_, _-_, _/_, _%_, _≤_, _<_}
 use mathlib.Core.Bool.{Bool, true, false, cond}
 use mathlib.Core.List.{List, [], _∷_, _++_, append-assoc, append-nil}
-use mathlib.Core.Option.{Option, none, some, Option·map, Option·none-ne-some, Option·some-injective}
+use mathlib.Core.Option.{Option, none, some, Option·map, Option·some-injective}
 use mathlib.Core.Path.{_≡_, refl, ap, sym, _∙_}
 use native.Mathlib.Omega.{arith}
 use lib.Dec.{eqb, leb}
@@ -12,35 +12,35 @@ use lib.ListN.{length}
 use borrow.Author.Tests.{eqb-true, eqb-false, leb-true, ne-eqb}
 use Rattle.text.specs.Decimal.{decimal}
 use Rattle.text.specs.Number.{digits, alone, naturalOf, hasMinus, negative, integerOf, numeral}
-use Rattle.text.proofs.Decimal.{decimal-one, decimal-many, decimal-snoc, one-or-many, headed, length-six, six-length}
+use Rattle.text.proofs.Decimal.{decimal-one, decimal-many, decimal-snoc, by-tens, headed, length-six, six-length}
 use Rattle.text.proofs.Digits.{digits-step}
+use Rattle.text.proofs.Told.{none-some, cond-some}
 
 -- COMPLETE
 
-read-one : (n : ℕ) (ds : List ℕ) → n < 10 → digits 0 (decimal n ++ ds) ≡ digits n ds
-read-one n ds w =
-    let s : 0 * 10 + (48 + n - 48) ≡ n = omega arith in
-    rw (decimal-one n w) (digits-step 0 (48 + n) ds (omega arith) (omega arith) (omega arith) ∙ ap (λ (m : ℕ). digits m ds) s)
+-- the digits of n, at most six, are read as n, whatever follows
+abbrev Read : ℕ → Type 0
+Read n = n < 1000000 → (ds : List ℕ) → digits 0 (decimal n ++ ds) ≡ digits n ds
 
-read-many : (n : ℕ) (ds : List ℕ) → 10 ≤ n → n < 1000000 → ((es : List ℕ) → digits 0 (decimal (n / 10) ++ es) ≡ digits (n / 10) es) → digits 0 (decimal n ++ ds) ≡ digits n ds
-read-many n ds w g tens =
-    let s : n / 10 * 10 + (48 + n % 10 - 48) ≡ n = omega arith in
-    rw (decimal-many n w, append-assoc) (tens ((48 + n % 10) ∷ ds) ∙ digits-step (n / 10) (48 + n % 10) ds (omega arith) (omega arith) (omega arith) ∙ ap (λ (m : ℕ). digits m ds) s)
+read-decimal : (n : ℕ) → Read n
+read-decimal = by-tens Read one many
+  where
+    one : (n : ℕ) → n < 10 → Read n
+    one n w g ds =
+        let s : 0 * 10 + (48 + n - 48) ≡ n = omega arith in
+        rw (decimal-one n w) (digits-step 0 (48 + n) ds (omega arith) (omega arith) (omega arith) ∙ rw s)
 
-read-decimal : (k n : ℕ) (ds : List ℕ) → n ≤ k → n < 1000000 → digits 0 (decimal n ++ ds) ≡ digits n ds
-read-decimal zero n ds h g = read-one n ds (omega arith)
-read-decimal (suc k) n ds h g = one-or-many n (λ w. read-one n ds w) (λ w. read-many n ds w g (λ es. read-decimal k (n / 10) es (omega arith) (omega arith)))
-
-read-whole : (n : ℕ) → n < 1000000 → digits 0 (decimal n) ≡ some n
-unfolding digits
-read-whole n g = ap (digits 0) (sym (append-nil (decimal n))) ∙ read-decimal n n [] (omega arith) g
+    many : (n : ℕ) → 10 ≤ n → Read (n / 10) → Read n
+    many n w tens g ds =
+        let s : n / 10 * 10 + (48 + n % 10 - 48) ≡ n = omega arith in
+        rw (decimal-many n w, append-assoc) (tens (omega arith) ((48 + n % 10) ∷ ds) ∙ digits-step (n / 10) (48 + n % 10) ds (omega arith) (omega arith) (omega arith) ∙ rw s)
 
 small-complete : (v : ℕ) → v < 1000000 → naturalOf (decimal v) ≡ some v
-unfolding naturalOf
+unfolding naturalOf digits
 small-complete zero g = rw (decimal-one 0 (omega arith)) refl
 small-complete (suc v) g =
     let h = headed (suc v) in
-    ap naturalOf (h .spelt) ∙ rw (ne-eqb (h .first) 48 (λ z. omega (arith, h .leading (omega arith)))) (ap (digits 0) (sym (h .spelt)) ∙ read-whole (suc v) g)
+    ap naturalOf (h .spelt) ∙ rw (ne-eqb (h .first) 48 (λ z. omega (arith, h .leading (omega arith)))) (ap (digits 0) (sym (h .spelt) ∙ sym (append-nil _)) ∙ read-decimal (suc v) g [])
 
 pub natural-complete : (v : ℕ) → length (decimal v) ≤ 6 → naturalOf (decimal v) ≡ some v
 natural-complete v six = small-complete v (six-length v six)
@@ -55,13 +55,6 @@ integer-complete (pos v) six = rw (no-minus v, natural-complete v six) refl
 integer-complete (negsuc v) six = rw (natural-complete (suc v) six) refl
 
 -- SOUND
-
-none-some : {A : Type 0} {X : Type 0} {a : A} → none ≡ some a → X
-none-some {A} {X} {a} e = absurd (Option·none-ne-some a e)
-
-cond-some : (b : Bool) (p : Option ℕ) {v : ℕ} → cond b p none ≡ some v → (b ≡ true) × (p ≡ some v)
-cond-some true p e = (refl, e)
-cond-some false p e = none-some e
 
 -- a digit that was read
 record Took (acc d : ℕ) (ds : List ℕ) (v : ℕ) : Type 0 where
@@ -80,9 +73,7 @@ took acc d ds e =
 
 digits-sound : (acc : ℕ) (ds : List ℕ) {v : ℕ} → 0 < acc → acc < 1000000 → digits acc ds ≡ some v → (decimal v ≡ decimal acc ++ ds) × (v < 1000000)
 unfolding digits
-digits-sound acc [] {v} p g e =
-    let same : acc ≡ v = Option·some-injective acc v e in
-    (sym (append-nil (decimal acc) ∙ ap decimal same), omega arith)
+digits-sound acc [] {v} p g e = rw (← Option·some-injective acc v e) (sym (append-nil (decimal acc)), g)
 digits-sound acc (d ∷ ds) {v} p g e =
     let t = took acc d ds e in
     let r = digits-sound (acc * 10 + (d - 48)) ds (omega (arith, t .room)) (omega (arith, t .low, t .high, t .room)) (t .rest) in
@@ -90,9 +81,7 @@ digits-sound acc (d ∷ ds) {v} p g e =
     (r .0 ∙ ap (λ (l : List ℕ). l ++ ds) (decimal-snoc acc (d - 48) p (omega (arith, t .high))) ∙ rw (append-assoc, s) refl, r .1)
 
 alone-sound : (ds : List ℕ) {v : ℕ} → alone ds ≡ some v → (48 ∷ ds ≡ decimal v) × (v < 1000000)
-alone-sound [] {v} e =
-    let same : 0 ≡ v = Option·some-injective 0 v e in
-    (sym (decimal-one 0 (omega arith)) ∙ ap decimal same, omega arith)
+alone-sound [] {v} e = rw (← Option·some-injective 0 v e) (sym (decimal-one 0 (omega arith)), omega arith)
 alone-sound (x ∷ xs) e = none-some e
 
 leading-sound : (d : ℕ) (ds : List ℕ) {v : ℕ} → (d ≡ 48 → ⊥) → digits 0 (d ∷ ds) ≡ some v → (d ∷ ds ≡ decimal v) × (v < 1000000)
@@ -123,15 +112,12 @@ negative-sound : (t : List ℕ) (o : Option ℕ) {z : ℤ} → naturalOf t ≡ o
 negative-sound t none q e = none-some e
 negative-sound t (some zero) q e = none-some e
 negative-sound t (some (suc v)) {z} q e =
-    let same : negsuc v ≡ z = Option·some-injective (negsuc v) z e in
     let r = natural-sound t q in
-    rw (sym same) (ap (λ (l : List ℕ). 45 ∷ l) (r .0), r .1)
+    rw (← Option·some-injective (negsuc v) z e) (ap (λ (l : List ℕ). 45 ∷ l) (r .0), r .1)
 
 plain-sound : (t : List ℕ) (o : Option ℕ) {z : ℤ} → naturalOf t ≡ o → Option·map pos o ≡ some z → (t ≡ numeral z) × (length (decimal (natAbs z)) ≤ 6)
 plain-sound t none q e = none-some e
-plain-sound t (some v) {z} q e =
-    let same : pos v ≡ z = Option·some-injective (pos v) z e in
-    rw (sym same) (natural-sound t q)
+plain-sound t (some v) {z} q e = rw (← Option·some-injective (pos v) z e) (natural-sound t q)
 
 pub integer-sound : (t : List ℕ) {z : ℤ} → integerOf t ≡ some z → (t ≡ numeral z) × (length (decimal (natAbs z)) ≤ 6)
 unfolding integerOf hasMinus

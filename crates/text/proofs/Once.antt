@@ -1,5 +1,5 @@
 -- Two answers allowed by a promise of this crate are equal, and so is what it says of a lent list. Assumes nothing.
-use Prim.Native.Nat.{ℕ, suc, _+_, _-_, _≤_, _<_}
+use Prim.Native.Nat.{ℕ, suc, _+_, _-_, _≤_}
 use mathlib.Core.Bool.{Bool, true, false, cond, true≢false}
 use mathlib.Core.List.{List, [], _∷_, _++_}
 use mathlib.Core.Option.{Option}
@@ -16,6 +16,7 @@ use Rattle.text.specs.Split.{grow, split, after}
 use Rattle.text.specs.Number.{naturalOf, readNatural, integerOf, readInteger}
 use Rattle.text.specs.Numbers.{every, told}
 use Rattle.text.specs.Word.{wordOf}
+use Rattle.text.proofs.Split.{Field, split-first}
 
 -- as in axis, on which this crate does not stand
 once : {A : Type 0} {x y z : A} → x ≡ z → y ≡ z → x ≡ y
@@ -58,10 +59,6 @@ abbrev spread : List (List ℕ) → ℕ
 spread [] = 0
 spread (f ∷ fs) = length f + 1 + spread fs
 
-grow-spread : (x : ℕ) (fs : List (List ℕ)) → 0 < spread fs → spread (grow x fs) ≡ spread fs + 1
-grow-spread x [] h = absurd (omega arith)
-grow-spread x (f ∷ fs) h = omega arith
-
 split-spread : (sep : ℕ) (xs : List ℕ) → spread (split sep xs) ≡ length xs + 1
 unfolding split
 split-spread sep [] = refl
@@ -69,28 +66,22 @@ split-spread sep (x ∷ xs) = go (eqb x sep) (split-spread sep xs)
   where
     go : (b : Bool) → spread (split sep xs) ≡ length xs + 1 → spread (cond b ([] ∷ split sep xs) (grow x (split sep xs))) ≡ suc (length xs) + 1
     go true e = omega (arith, e)
-    go false e = omega (arith, e, grow-spread x (split sep xs) (omega (arith, e)))
+    go false e = omega (arith, e, ap spread (split-first sep xs), ap (λ (l : List (List ℕ)). spread (grow x l)) (split-first sep xs))
 
 after-spread : (sep : ℕ) (xs : List ℕ) → spread (after sep xs) ≡ length xs
 unfolding after
 after-spread sep [] = refl
 after-spread sep (x ∷ xs) = omega (arith, split-spread sep xs)
 
--- what `field` promises of a stretch
-pub record Stands (line : List ℕ) (k : ℕ) (r : Span) : Type 0 where
-  pub within : (r .start ≤ r .end) × (r .end ≤ length line)
-  pub here : take (r .end - r .start) (drop (r .start) line) ≡ getD (split 9 line) k []
-  pub rest : after 9 (drop (r .end) line) ≡ drop (k + 1) (split 9 line)
+module _ (line : List ℕ) (k at e : ℕ) (x : Field 9 line k at e) where
+  behind : length line - e ≡ spread (drop (k + 1) (split 9 line))
+  behind = sym (length-drop e line) ∙ sym (after-spread 9 (drop e line)) ∙ ap spread (x .1 .1)
 
-module _ (line : List ℕ) (k : ℕ) (r : Span) (x : Stands line k r) where
-  behind : length line - r .end ≡ spread (drop (k + 1) (split 9 line))
-  behind = sym (length-drop (r .end) line) ∙ sym (after-spread 9 (drop (r .end) line)) ∙ ap spread (x .rest)
+  long : e - at ≡ length (getD (split 9 line) k [])
+  long = sym (length-take-le (e - at) (drop at line) (omega (arith, length-drop at line))) ∙ ap length (x .1 .0)
 
-  here-long : r .end - r .start ≡ length (getD (split 9 line) k [])
-  here-long = sym (length-take-le (r .end - r .start) (drop (r .start) line) (omega (arith, x .within, length-drop (r .start) line))) ∙ ap length (x .here)
-
-pub field-once : (line : List ℕ) (k : ℕ) (r r′ : Span) → Stands line k r → Stands line k r′ → r ≡ r′
+pub field-once : (line : List ℕ) (k : ℕ) (r r′ : Span) → Field 9 line k (r .start) (r .end) → Field 9 line k (r′ .start) (r′ .end) → r ≡ r′
 field-once line k r r′ x y =
-    let ends : r .end ≡ r′ .end = omega (arith, once (behind line k r x) (behind line k r′ y), x .within .1, y .within .1) in
-    let starts : r .start ≡ r′ .start = omega (arith, once (here-long line k r x) (here-long line k r′ y), ends, x .within .0, y .within .0) in
+    let ends : r .end ≡ r′ .end = omega (arith, behind line k (r .start) (r .end) x, behind line k (r′ .start) (r′ .end) y) in
+    let starts : r .start ≡ r′ .start = omega (arith, long line k (r .start) (r .end) x, long line k (r′ .start) (r′ .end) y) in
     λ i. record { start = starts i; end = ends i }

@@ -25,34 +25,31 @@ abbrev ofNatural : Natural → Option ℕ
 ofNatural (natural.Value v) = some v
 ofNatural natural.Bad = none
 
-pub natural-told : (o : Option ℕ) {r : Natural} (a : Natural) → r ≡ readNatural o → r ≡ a → o ≡ ofNatural a
-natural-told = told readNatural ofNatural (λ o. elim o [ none ↦ refl | some v ↦ refl ])
+pub natural-told : {o : Option ℕ} {r a : Natural} → r ≡ readNatural o → r ≡ a → o ≡ ofNatural a
+natural-told {o} {r} {a} = told readNatural ofNatural (λ o. elim o [ none ↦ refl | some v ↦ refl ]) o a
 
 abbrev ofInteger : Integer → Option ℤ
 ofInteger (integer.Value z) = some z
 ofInteger integer.Bad = none
 
-pub integer-told : (o : Option ℤ) {r : Integer} (a : Integer) → r ≡ readInteger o → r ≡ a → o ≡ ofInteger a
-integer-told = told readInteger ofInteger (λ o. elim o [ none ↦ refl | some z ↦ refl ])
+pub integer-told : {o : Option ℤ} {r a : Integer} → r ≡ readInteger o → r ≡ a → o ≡ ofInteger a
+integer-told {o} {r} {a} = told readInteger ofInteger (λ o. elim o [ none ↦ refl | some z ↦ refl ]) o a
 
 pub minus-some : (t : List ℕ) → hasMinus t ≡ true → 1 ≤ length t
 unfolding hasMinus
 minus-some [] e = absurd (true≢false (sym e))
 minus-some (d ∷ ds) e = omega arith
 
--- what stands behind the minus, as a part of the text
-pub behind-minus : (t : List ℕ) → naturalOf (drop 1 t) ≡ naturalOf (take (length t - 1) (drop 1 t))
-behind-minus t = ap naturalOf (sym (take-all (length t - 1) (drop 1 t) (omega (arith, length-drop 1 t))))
-
-pub integer-minus : (t : List ℕ) → hasMinus t ≡ true → integerOf t ≡ negative (naturalOf (drop 1 t))
+-- by what was read of the part behind the minus
+pub integer-minus : (t : List ℕ) {o : Option ℕ} → hasMinus t ≡ true → naturalOf (take (length t - 1) (drop 1 t)) ≡ o → negative o ≡ integerOf t
 unfolding integerOf
-integer-minus t e = rw e refl
+integer-minus t e read = rw (e, ← read, take-all (length t - 1) (drop 1 t) (omega (arith, length-drop 1 t)))
 
-pub integer-plain : (t : List ℕ) → hasMinus t ≡ false → integerOf t ≡ Option·map pos (naturalOf t)
+pub integer-plain : (t : List ℕ) {o : Option ℕ} → hasMinus t ≡ false → naturalOf t ≡ o → Option·map pos o ≡ integerOf t
 unfolding integerOf
-integer-plain t e = rw e refl
+integer-plain t e read = rw (e, read)
 
-negative-some : (v : ℕ) → (v ≡ 0 → ⊥) → negative (some v) ≡ some (negℤ (pos v))
+negative-some : (v : ℕ) → (v ≡ 0 → ⊥) → some (negℤ (pos v)) ≡ negative (some v)
 negative-some zero h = absurd (h refl)
 negative-some (suc v) h = refl
 
@@ -61,7 +58,7 @@ mag-neg zero = omega arith
 mag-neg (suc v) = omega arith
 
 -- six digits fit 32 bits with a sign
-module _ (t : List ℕ) (v : ℕ) (read : naturalOf t ≡ some v) where
+module _ (t : List ℕ) {v : ℕ} (read : naturalOf t ≡ some v) where
   small : v < 1000000
   small = natural-small t read
 
@@ -77,8 +74,5 @@ module _ (t : List ℕ) (v : ℕ) (read : naturalOf t ≡ some v) where
   pub negated-fits : SFits w32 (pos 0 -ℤ toZ w32 v)
   negated-fits = rw negated (record { sfits = omega (arith, mag-neg v, small) })
 
-  pub negated-back : toZ w32 (ofZ w32 (pos 0 -ℤ toZ w32 v)) ≡ negℤ (pos v)
-  negated-back = toZ-ofZ w32 (pos 0 -ℤ toZ w32 v) negated-fits ∙ negated
-
-  pub negative-read : (v ≡ 0 → ⊥) → negative (naturalOf t) ≡ some (negℤ (pos v))
-  negative-read h = rw read (negative-some v h)
+  pub negated-read : (v ≡ 0 → ⊥) → some (toZ w32 (ofZ w32 (pos 0 -ℤ toZ w32 v))) ≡ negative (some v)
+  negated-read h = ap some (toZ-ofZ w32 (pos 0 -ℤ toZ w32 v) negated-fits ∙ negated) ∙ negative-some v h

@@ -3,7 +3,7 @@ use Prim.Native.Nat.{ℕ, _+_, _≤_, _<_}
 use mathlib.Core.List.{List, [], _∷_, _++_, append-assoc, append-nil}
 use mathlib.Core.Path.{_≡_, refl, sym, _∙_}
 use lib.ListN.{length, take, drop, getD, set, drop-of-length-le}
-use lib.Seq.{take-suc, take-suc-set, take-all, drop-cons}
+use lib.Seq.{take-suc, take-suc-set, drop-cons}
 use native.Mathlib.Nat.{add-zero}
 use native.Mathlib.Numerals.{add-one}
 use native.Mathlib.Omega.{arith}
@@ -18,17 +18,11 @@ one-put l at b h = rw (add-one, take-suc-set l at b h) refl
 pub copy-begins : (l src : List ℕ) (at : ℕ) → take (at + 0) l ≡ take at l ++ take 0 src
 copy-begins l src at = rw (add-zero, append-nil) refl
 
-pub copy-on : (out out₀ src : List ℕ) (at i : ℕ) → at + i < length out → i < length src → take (at + i) out ≡ take at out₀ ++ take i src → take (at + (i + 1)) (set out (at + i) (getD src i 0)) ≡ take at out₀ ++ take (i + 1) src
+pub copy-on : (out out₀ src : List ℕ) (at i : ℕ) → at + i < length out → i < length src → take (at + i) out ≡ take at out₀ ++ take i src
+    → take (at + (i + 1)) (set out (at + i) (getD src i 0)) ≡ take at out₀ ++ take (i + 1) src
 copy-on out out₀ src at i h g e =
     let n : at + (i + 1) ≡ at + i + 1 = omega arith in
     rw n (one-put out (at + i) (getD src i 0) h ∙ rw (e, add-one, take-suc src i 0 g) (simp append-assoc))
-
-pub copy-ends : (out out₀ src : List ℕ) (at i : ℕ) → length src ≤ i → take (at + i) out ≡ take at out₀ ++ take i src → take (at + i) out ≡ take at out₀ ++ src
-copy-ends out out₀ src at i h e = e ∙ rw (take-all i src h) refl
-
--- a piece behind a piece
-pub then : {a b : List ℕ} (p r s : List ℕ) → b ≡ p ++ r → a ≡ b ++ s → a ≡ p ++ (r ++ s)
-then p r s e f = f ∙ rw e (append-assoc p r s)
 
 -- the numbers from i on are still to be written behind `to`
 pub numbers-on : {all to′ : List ℕ} (to xs : List ℕ) (i : ℕ) → i < length xs → all ≡ to ++ spaced (drop i xs) → to′ ≡ to ++ (32 ∷ decimal (getD xs i 0)) → all ≡ to′ ++ spaced (drop (i + 1) xs)

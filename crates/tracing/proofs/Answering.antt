@@ -14,13 +14,14 @@ use Rattle.ray.specs.declared.Ray.{Ray}
 use Rattle.ray.specs.Length.{volume, count, dOf, squaredOf, misses, partOf, spanOf, listOf, crossedOf}
 use Rattle.ray.proofs.TurnedList.{map-same}
 use Rattle.ray.proofs.Moved.{Moved, d-moved, squared-moved, part-moved, span-moved, list-moved, sum-moved, crossed-moved}
-use Rattle.walk.specs.declared.line.Scene.{Scene}
-use Rattle.walk.specs.Scene.{volumeOf, rayOf, Able}
+use Rattle.line.specs.declared.scene.Scene.{Scene}
+use Rattle.line.specs.Scene.{volumeOf, rayOf, Able}
+use Rattle.line.specs.Raised.{sceneOf}
+use Rattle.line.proofs.Raised.{moved, able, tenths-small, d-tenths}
 use Rattle.walk.proofs.Counts.{missed-list, missed-sum}
 use Rattle.tracing.specs.declared.Trace.{Trace}
 use Rattle.tracing.specs.Answer.{codeOf, refused, accepted, answerOf, written, voxelsAfter, partsAfter}
-use Rattle.tracing.specs.Inside.{sceneOf, Accepted}
-use Rattle.tracing.proofs.Raised.{moved, able, tenths-small, d-tenths}
+use Rattle.tracing.specs.Inside.{Accepted}
 
 -- ---- an answer and two lists by RULES 5
 pub record Answers (g : Grid) (r : Ray) (densities vs₀ ps₀ : List ℕ) (filled : ℕ) (a : Trace) (vs ps : List ℕ) : Type 0 where

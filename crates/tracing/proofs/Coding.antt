@@ -9,10 +9,11 @@ use Rattle.axis.specs.Codes.{tenths}
 use Rattle.ray.specs.declared.Grid.{Grid}
 use Rattle.ray.specs.declared.Ray.{Ray}
 use Rattle.ray.specs.Length.{volume, listOf}
-use Rattle.walk.specs.declared.line.Scene.{Scene}
-use Rattle.walk.specs.Scene.{volumeOf, rayOf}
+use Rattle.line.specs.declared.scene.Scene.{Scene}
+use Rattle.line.specs.Scene.{volumeOf, rayOf}
+use Rattle.line.specs.Raised.{sceneOf}
 use Rattle.tracing.specs.Answer.{codeOf}
-use Rattle.tracing.specs.Inside.{sceneOf, Accepted}
+use Rattle.tracing.specs.Inside.{Accepted}
 use Rattle.tracing.proofs.Answering.{list-so}
 
 module _ (g : Grid) (r : Ray) (nd nv np : ℕ) (ok : Accepted g r nd nv np) (c : ℕ) (zero : c ≡ 0)

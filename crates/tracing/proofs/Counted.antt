@@ -7,7 +7,8 @@ use mathlib.Core.List.{List, [], map}
 use native.Mathlib.Omega.{arith}
 use lib.IntN.{pos}
 use lib.ListN.{length, getD}
-use Rattle.axis.specs.Codes.{Limits, tenths, first}
+use Rattle.axis.specs.declared.Limits.{Limits}
+use Rattle.axis.specs.Codes.{tenths, first}
 use Rattle.ray.specs.declared.Grid.{Grid}
 use Rattle.ray.specs.declared.Ray.{Ray}
 use Rattle.ray.specs.Length.{Volume, volume, dOf, array, start, stop, partOf, misses, spanOf, listOf, sumOf, crossedOf}
@@ -17,11 +18,11 @@ use Rattle.ray.proofs.Weighted.{sum-list}
 use Rattle.ray.proofs.Capped.{stop-cap}
 use Rattle.ray.proofs.Different.{differentOf}
 use Rattle.ray.proofs.Moved.{Moved, d-moved, part-moved, misses-moved, span-moved, list-moved, sum-moved, crossed-moved, different-moved}
-use Rattle.walk.specs.declared.line.Scene.{Scene}
-use Rattle.walk.specs.Scene.{volumeOf, rayOf, Able}
+use Rattle.line.specs.declared.scene.Scene.{Scene}
+use Rattle.line.specs.Scene.{volumeOf, rayOf, Able}
+use Rattle.line.specs.Raised.{sceneOf}
+use Rattle.line.proofs.Raised.{Small, tenths-small, able, moved, d-tenths}
 use Rattle.walk.proofs.Counts as Walked
-use Rattle.tracing.specs.Inside.{sceneOf}
-use Rattle.tracing.proofs.Raised.{Small, tenths-small, able, moved, d-tenths}
 use Rattle.tracing.proofs.Weighing.{weighed-most}
 use Rattle.tracing.proofs.Hits.{weighed-list}
 

@@ -12,10 +12,10 @@ use Rattle.ray.specs.declared.Ray.{Ray}
 use Rattle.ray.proofs.Total.{sumList}
 use Rattle.ray.proofs.Listing.{list-sound}
 use Rattle.ray.proofs.Weighted.{sum-list}
-use Rattle.walk.specs.declared.line.Scene.{Scene}
+use Rattle.line.specs.declared.scene.Scene.{Scene}
+use Rattle.line.specs.Scene.{volumeOf, rayOf}
 use Rattle.walk.specs.declared.plan.Frame.{Frame}
 use Rattle.walk.specs.declared.plan.Plan.{Plan}
-use Rattle.walk.specs.Scene.{volumeOf, rayOf}
 use Rattle.walk.specs.Model.{Entry, entries, Filled}
 use Rattle.walk.specs.Plan.{Planned}
 use Rattle.walk.proofs.Plans.{proper}

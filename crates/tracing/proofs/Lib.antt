@@ -1,6 +1,5 @@
 -- Laws of the trace.
 pub mod Accepting
-pub mod Raised
 pub mod Weighing
 pub mod Hits
 pub mod Answering

@@ -7,9 +7,9 @@ use lib.ListN.{length}
 use Rattle.axis.specs.Codes.{tenths}
 use Rattle.ray.specs.declared.Grid.{Grid}
 use Rattle.ray.specs.declared.Ray.{Ray}
+use Rattle.line.proofs.Raised.{tenths-small}
 use Rattle.tracing.specs.declared.Trace.{Trace}
 use Rattle.tracing.specs.Inside.{Accepted}
-use Rattle.tracing.proofs.Raised.{tenths-small}
 use Rattle.tracing.proofs.Counted.{entries-crossed, entries-few}
 use Rattle.tracing.proofs.Answering.{Answers}
 use Rattle.tracing.proofs.OneCall.{free, accepts-free, entries-are, crossed-is}

@@ -1,46 +1,28 @@
 -- What tracing's inner functions say to each other. A reader of the promises needs none of it. Definitions only. Assumes nothing.
 use Prim.Native.Nat.{ℕ, _+_, _*_, _^_, _≤_, _<_}
 use mathlib.Core.Path.{_≡_}
-use mathlib.Core.Bool.{true}
 use mathlib.Core.List.{List, [], _∷_, sum}
-use lib.IntN.{ℤ, pos, _+ℤ_}
 use lib.ListN.{length, getD}
-use Rattle.axis.specs.declared.Axis.{Axis}
-use Rattle.axis.specs.Leg.{natural}
-use Rattle.axis.specs.Codes.{Limits, tenths, first}
+use Rattle.axis.specs.declared.Limits.{Limits}
+use Rattle.axis.specs.Codes.{first}
 use Rattle.ray.specs.declared.Grid.{Grid}
 use Rattle.ray.specs.declared.Ray.{Ray}
-use Rattle.ray.specs.Length.{volume, count, dOf}
+use Rattle.ray.specs.declared.Lent.{Lent}
+use Rattle.ray.specs.Length.{volume, count}
 use Rattle.ray.specs.Codes.{gridRows, endRows}
-use Rattle.walk.specs.declared.line.Line.{Line}
-use Rattle.walk.specs.declared.line.Scene.{Scene}
-use Rattle.walk.specs.declared.plan.Frame.{Frame}
-use Rattle.walk.specs.Scene.{Able, volumeOf, rayOf}
-use Rattle.walk.specs.Plan.{Framed}
+use Rattle.line.specs.Raised.{Small, cube}
+
+-- limits at which a ray can be traced and summed up: the walk's, and that D is small enough for the sum
+pub record Suited (m : Limits) : Type 0 where
+  pub small : Small m
+  pub d-size : cube (m .coord + m .coord) ≤ 2 ^ 45
 
 -- what no code from 1 to 7 means
-pub record Accepted (g : Grid) (r : Ray) (densities voxels parts : ℕ) : Type 0 where
-  pub grid : first (gridRows tenths g) ≡ 0
-  pub ends : first (endRows tenths r) ≡ 0
-  pub densities-are : densities ≡ count (volume g)
-  pub lists-are : voxels ≡ parts
-
--- an axis and the ray on it, every coordinate told from the lower limit up
-abbrev pub lineOf : Limits → Axis → ℤ → ℤ → Line
-lineOf m a p q = record {
-  p = natural (p +ℤ pos (m .coord));
-  q = natural (q +ℤ pos (m .coord));
-  b = natural (a .b +ℤ pos (m .coord));
-  d = a .d;
-  n = a .n;
-}
-
-abbrev pub sceneOf : Limits → Grid → Ray → Scene
-sceneOf m g r = record {
-  x = lineOf m (g .x) (r .p .x) (r .q .x);
-  y = lineOf m (g .y) (r .p .y) (r .q .y);
-  z = lineOf m (g .z) (r .p .z) (r .q .z);
-}
+pub record Accepted (m : Limits) (g : Grid) (r : Ray) (l : Lent) : Type 0 where
+  pub grid : first (gridRows m g) ≡ 0
+  pub ends : first (endRows m r) ≡ 0
+  pub densities-are : l .densities ≡ count (volume g)
+  pub lists-are : l .voxels ≡ l .parts
 
 -- the sum of part·density over entries
 abbrev pub weighed : List ℕ → List ℕ → List ℕ → ℕ
@@ -55,12 +37,3 @@ pub record Weighable (densities voxels parts : List ℕ) : Type 0 where
   pub lists : length voxels ≡ length parts
   pub within : (i : ℕ) → i < length voxels → getD voxels i 0 < length densities
   pub parts-size : summed parts ≤ 2 ^ 45
-
--- what tracing a ray that hits asks
-pub record Hitting (s : Scene) (f : Frame) (densities voxels parts : ℕ) : Type 0 where
-  pub able : Able s
-  pub framed : Framed s f
-  pub hit : f .hit ≡ true
-  pub d-size : dOf (rayOf s) ≤ 2 ^ 45
-  pub densities-are : densities ≡ count (volumeOf s)
-  pub lists-are : voxels ≡ parts

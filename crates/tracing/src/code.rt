@@ -2,7 +2,7 @@
 ghost use mathlib.Core.Path.{_≡_};
 ghost use Rattle.tracing.specs.Answer.{codeOf};
 use crate::accept::code_but_room;
-use crate::scene::scene_of;
+use line::scene::scene_of;
 use ray::Grid;
 use ray::Ray;
 use walk::entries::count;

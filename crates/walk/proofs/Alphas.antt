@@ -12,20 +12,20 @@ use Rattle.axis.proofs.Flag.{off-or-on}
 use Rattle.ray.specs.Length.{Side, rest, dOf, array, start, stop}
 use Rattle.ray.proofs.Different.{alphaOf, crossedAt, crosses-means, means-crosses, crossed-yes, crossed-no, crossed-until}
 use Rattle.ray.proofs.After.{after, none-after, one-after}
-use Rattle.walk.specs.declared.line.Line.{Line}
-use Rattle.walk.specs.declared.line.Scene.{Scene}
+use Rattle.line.specs.declared.line.Line.{Line}
+use Rattle.line.specs.declared.scene.Scene.{Scene}
+use Rattle.line.specs.Scene.{legN, plane, line, Able}
+use Rattle.line.proofs.Units.{moves, stays, run-up, run-down}
+use Rattle.line.proofs.Three.{least-le, least-one}
+use Rattle.line.proofs.Stretch.{enterAt, leaveAt}
+use Rattle.line.proofs.Crossing.{up-rise, down-fall}
+use Rattle.line.proofs.Scenes.{vol, ray, way, going, leg-is, leave}
 use Rattle.walk.specs.declared.steps.Walk.{Walk}
 use Rattle.walk.specs.declared.steps.Strides.{Strides}
-use Rattle.walk.specs.Scene.{legN, plane, line, Able}
 use Rattle.walk.specs.Model.{leaveOf, soonest, entries, Forward}
 use Rattle.ray.proofs.Way.{Way, up, down, still, Goes}
-use Rattle.walk.proofs.Units.{moves, stays, run-up, run-down}
-use Rattle.walk.proofs.Three.{least-le, least-one}
-use Rattle.walk.proofs.Stretch.{enterAt, leaveAt}
-use Rattle.walk.proofs.Crossing.{up-rise, down-fall}
 use Rattle.walk.proofs.Turns.{step-tick}
 use Rattle.ray.proofs.Indices.{number}
-use Rattle.walk.proofs.Scenes.{vol, ray, way, going, leg-is, leave}
 use Rattle.walk.proofs.Walking.{Paced, Walking, start-late, here-below, here-start, soon-later, to-d, next-at}
 use Rattle.walk.proofs.Found.{walk-all}
 

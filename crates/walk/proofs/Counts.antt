@@ -15,8 +15,8 @@ use Rattle.ray.proofs.Weighted.{sum-list}
 use Rattle.ray.proofs.Different.{crossedAt, differentOf, crossed-since}
 use Rattle.ray.proofs.FewAlphas.{different-few}
 use Rattle.ray.proofs.After.{all-after}
-use Rattle.walk.specs.declared.line.Scene.{Scene}
-use Rattle.walk.specs.Scene.{volumeOf, rayOf, Able}
+use Rattle.line.specs.declared.scene.Scene.{Scene}
+use Rattle.line.specs.Scene.{volumeOf, rayOf, Able}
 use Rattle.walk.specs.Model.{Entry, entries}
 use Rattle.walk.proofs.Found.{found-list, found-parts, found-total}
 use Rattle.walk.proofs.SetOut.{SetOut, set-out}

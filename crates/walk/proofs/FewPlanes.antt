@@ -4,10 +4,11 @@ use mathlib.Core.Path.{_≡_, refl}
 use mathlib.Core.Bool.{false}
 use native.Mathlib.Omega.{arith}
 use Rattle.ray.specs.Length.{Side, X, Y, Z, misses, crossedOf}
-use Rattle.walk.specs.declared.line.Scene.{Scene}
-use Rattle.walk.specs.Scene.{line, volumeOf, rayOf, Able, Within}
-use Rattle.walk.specs.Plan.{crossedOn, restOf}
-use Rattle.walk.proofs.Crossing.{crossed-is}
+use Rattle.line.specs.declared.scene.Scene.{Scene}
+use Rattle.line.specs.Scene.{line, volumeOf, rayOf, Able, Within}
+use Rattle.line.specs.Reach.{crossedOn}
+use Rattle.line.proofs.Crossing.{crossed-is}
+use Rattle.walk.specs.Plan.{restOf}
 use Rattle.walk.proofs.Plans.{crossed-all}
 use Rattle.walk.proofs.SetOut.{frame, framed, hits, from-to, index, within}
 

@@ -9,14 +9,14 @@ use Rattle.ray.specs.Length.{Side, count, array, start, stop, partOf, listOf}
 use Rattle.ray.proofs.Apart.{starts-apart}
 use Rattle.ray.proofs.Total.{sumList}
 use Rattle.ray.proofs.Listing.{Listed, SoFar, starts, one-more, none-yet, all-found, list-is}
-use Rattle.walk.specs.declared.line.Scene.{Scene}
+use Rattle.line.specs.declared.scene.Scene.{Scene}
+use Rattle.line.specs.Scene.{Able}
+use Rattle.line.proofs.Scenes.{vol, ray, scene-rise, met}
 use Rattle.walk.specs.declared.steps.Walk.{Walk}
 use Rattle.walk.specs.declared.steps.Strides.{Strides}
-use Rattle.walk.specs.Scene.{Able}
 use Rattle.walk.specs.Model.{soonest, stepped, Entry, entry, voxels, parts, entries, Forward}
 use Rattle.walk.proofs.Turns.{forward-on, step-tick, entries-last, entries-more}
 use Rattle.ray.proofs.Indices.{number}
-use Rattle.walk.proofs.Scenes.{vol, ray, scene-rise, met}
 use Rattle.walk.proofs.Walking.{Paced, Walking, start-late, stop-soon, here-below, here-start, here-only, soon-later, part-more, part-last, number-kept, onAt, walking-on}
 
 fewer : (to t u m : ℕ) → to - t ≤ suc m → t < u → to - u ≤ m

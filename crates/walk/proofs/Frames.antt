@@ -6,10 +6,11 @@ use lib.Dec.{ltb, leb}
 use Rattle.axis.specs.Leg.{factor}
 use Rattle.axis.proofs.Flag.{lt-not-le}
 use Rattle.ray.specs.Length.{Side, X, Y, Z, leg, rest, array, start, stop, holds, misses}
-use Rattle.walk.specs.declared.line.Scene.{Scene}
-use Rattle.walk.specs.declared.reach.Reach.{Reach}
-use Rattle.walk.specs.Scene.{volumeOf, rayOf}
-use Rattle.walk.specs.Plan.{Reached, restOf, Framed}
+use Rattle.line.specs.declared.scene.Scene.{Scene}
+use Rattle.line.specs.declared.reach.Reach.{Reach}
+use Rattle.line.specs.Scene.{volumeOf, rayOf}
+use Rattle.line.specs.Reach.{Reached}
+use Rattle.walk.specs.Plan.{restOf, Framed}
 
 -- not missed: the window is not empty, and the array holds the ray
 hit-misses : (s : Scene) → (ltb (start (rayOf s) (array (volumeOf s))) (stop (rayOf s) (array (volumeOf s))) && holds (rayOf s) (array (volumeOf s))) ≡ not (misses (volumeOf s) (rayOf s))

@@ -5,9 +5,9 @@ use mathlib.Core.Bool.{Bool, true, false, cond}
 use native.Mathlib.Omega.{arith}
 use native.Mathlib.Nat.{mod-eq-of-lt, add-mod-right, add-mul, suc-mul, one-mul, mul-le-mul, mul-assoc}
 use Rattle.ray.specs.Length.{Side, X, Y, Z, Volume}
+use Rattle.line.proofs.Stretch.{onward}
 use Rattle.walk.specs.Plan.{unit}
 use Rattle.ray.proofs.Way.{Way, up, down, still}
-use Rattle.walk.proofs.Stretch.{onward}
 use Rattle.ray.proofs.Indices.{number}
 
 -- what the code adds for one voxel on

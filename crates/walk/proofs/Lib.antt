@@ -1,17 +1,10 @@
 -- Laws of the walk.
-pub mod Units
 pub mod StepIs
 pub mod Turns
-pub mod Three
-pub mod Stretch
-pub mod Scenes
 pub mod Hops
 pub mod Walking
 pub mod Found
-pub mod Index
-pub mod Sizes
 pub mod Frames
-pub mod Crossing
 pub mod Plans
 pub mod SetOut
 pub mod Missed
@@ -19,3 +12,4 @@ pub mod FewPlanes
 pub mod Alphas
 pub mod Counts
 pub mod Once
+pub mod Called

@@ -6,13 +6,13 @@ use native.Mathlib.Omega.{arith}
 use borrow.Author.Tests.{lt-leb}
 use Rattle.axis.specs.Leg.{held}
 use Rattle.ray.specs.Length.{Side, X, Y, Z, leg, count, array, index, holds, start, stop, partOf, misses}
-use Rattle.walk.specs.declared.line.Scene.{Scene}
-use Rattle.walk.specs.Scene.{line, volumeOf, rayOf, Able}
 use Rattle.ray.proofs.Way.{Way, up, down, still}
-use Rattle.walk.proofs.Units.{HeldBy}
-use Rattle.walk.proofs.Stretch.{plane-mono}
 use Rattle.ray.proofs.Indices.{index-below}
-use Rattle.walk.proofs.Scenes.{way, met, there-held}
+use Rattle.line.specs.declared.scene.Scene.{Scene}
+use Rattle.line.specs.Scene.{line, volumeOf, rayOf, Able}
+use Rattle.line.proofs.Units.{HeldBy}
+use Rattle.line.proofs.Stretch.{plane-mono}
+use Rattle.line.proofs.Scenes.{way, met, there-held}
 use Rattle.walk.proofs.Walking.{start-late, stop-soon}
 
 held-wider : (w : Way) (p : ℕ) {lo hi lo₀ hi₁ : ℕ} → lo₀ ≤ lo → hi ≤ hi₁ → HeldBy w p lo hi → HeldBy w p lo₀ hi₁

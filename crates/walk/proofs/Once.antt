@@ -1,44 +1,23 @@
 -- Two answers allowed by a promise are equal, and so are the lists it leaves. A promise that is one equation is a case of `once`; here stand
--- the functions that tracing calls, and those of an axis whose promise is no single equation. Assumes nothing.
-use Prim.Native.Nat.{ℕ, _+_, _-_, _*_, _^_, _≤_, _<_}
+-- the functions that tracing calls. Assumes nothing.
+use Prim.Native.Nat.{ℕ}
 use mathlib.Core.Path.{_≡_, sym, ap, _∙_}
 use mathlib.Core.List.{List, _++_}
-use native.Mathlib.Nat.{mul-one}
-use native.Mathlib.Decide.{decLt}
-use native.Mathlib.Omega.{arith}
 use lib.ListN.{length, take, drop, take-append-drop}
 use Rattle.axis.proofs.Once.{once}
 use Rattle.ray.specs.Length.{Side, X, Y, Z}
-use Rattle.walk.specs.declared.line.Line.{Line}
-use Rattle.walk.specs.declared.line.Scene.{Scene}
+use Rattle.line.specs.declared.scene.Scene.{Scene}
+use Rattle.line.specs.Scene.{line, volumeOf, Able}
+use Rattle.line.proofs.Once.{jump-once, index-once}
 use Rattle.walk.specs.declared.steps.Walk.{Walk}
 use Rattle.walk.specs.declared.steps.Strides.{Strides}
-use Rattle.walk.specs.declared.reach.Reach.{Reach}
 use Rattle.walk.specs.declared.plan.Frame.{Frame}
 use Rattle.walk.specs.declared.plan.Plan.{Plan}
-use Rattle.walk.specs.Scene.{plane, line, volumeOf, Sized, Able, Within}
-use Rattle.walk.specs.Model.{leaveOf, stepOf, jumpOf, Entry, entries, Filled}
-use Rattle.walk.specs.Plan.{Reached, restOf, Framed, unit, Strided, Begun, Planned}
-use Rattle.ray.proofs.Way.{Way, way as goes}
-use Rattle.walk.proofs.Units.{enters-is, leaves-is, held-by}
-use Rattle.walk.proofs.Stretch.{plane-mono, HeldAt, enterAt, leaveAt, one-voxel}
-
-pub apart-once : (i j r r′ : ℕ) → r ≡ (i - j) + (j - i) → r′ ≡ (i - j) + (j - i) → r ≡ r′
-apart-once i j r r′ = once
+use Rattle.walk.specs.Model.{leaveOf, jumpOf, Entry, entries, Filled}
+use Rattle.walk.specs.Plan.{restOf, Framed, unit, Strided, Begun, Planned}
 
 pub count-once : (begin : Walk) (s : Strides) (to r r′ : ℕ) → r ≡ length (entries s to begin) → r′ ≡ length (entries s to begin) → r ≡ r′
 count-once begin s to r r′ = once
-
--- `enter` and `leave` of an axis
-pub units-once : (ticks : ℕ → ℕ) (r r′ : ℕ) → ((rest : ℕ) → r * rest ≡ ticks rest) → ((rest : ℕ) → r′ * rest ≡ ticks rest) → r ≡ r′
-units-once ticks r r′ x y = sym (mul-one r) ∙ once (x 1) (y 1) ∙ mul-one r′
-
-pub reach-once : (a : Line) (c : ℕ) (r r′ : Reach) → Reached a c r → Reached a c r′ → r ≡ r′
-reach-once a c r r′ x y = λ i. record {
-  from = once (x .from-is) (y .from-is) i;
-  to = once (x .to-is) (y .to-is) i;
-  held = once (x .held-is) (y .held-is) i;
-}
 
 -- a list by its first n places and the rest
 by-parts : {A : Type 0} (n : ℕ) (xs ys : List A) → take n xs ≡ take n ys → drop n xs ≡ drop n ys → xs ≡ ys
@@ -62,12 +41,6 @@ frame-once s f f′ x y = λ i. record {
   hit = once (x .hit-is) (y .hit-is) i;
 }
 
-pub jump-once : (p q unit r r′ : ℕ) → (p < q → r ≡ unit) × (q ≤ p → r + unit ≡ 2 ^ 64) → (p < q → r′ ≡ unit) × (q ≤ p → r′ + unit ≡ 2 ^ 64) → r ≡ r′
-jump-once p q unit r r′ x y = elim (decLt p q) [
-  | yes h ↦ once (x .0 h) (y .0 h)
-  | no h ↦ let up = x .1 (omega arith) in let down = y .1 (omega arith) in omega (arith, up, down)
-]
-
 strides-once : (s : Scene) (f : Frame) (t t′ : Strides) → Strided s f t → Strided s f t′ → t ≡ t′
 strides-once s f t t′ x y =
     let jump : (o : Side) → jumpOf t o ≡ jumpOf t′ o = λ o. jump-once (line s o .p) (line s o .q) (unit (volumeOf s) o) (jumpOf t o) (jumpOf t′ o) (x .upward o, x .downward o) (y .upward o, y .downward o) in
@@ -79,25 +52,6 @@ strides-once s f t t′ x y =
       vy = jump Y i;
       vz = jump Z i;
     }
-
--- a tick lies in one voxel of an axis: what `index` answers
-module _ (a : Line) (c t : ℕ) where
-  abbrev w : Way
-  w = goes (a .p) (a .q) .0
-
-  stretch : (i : ℕ) → Within a c t i → HeldAt w a i × ((enterAt w a c i (i + 1) ≤ t) × (t < leaveAt w a c i (i + 1)))
-  stretch i x =
-      let g = goes (a .p) (a .q) .1 in
-      let up = plane-mono a {i = i} {j = i + 1} (omega arith) in (
-        held-by w (a .p) (a .q) (plane a i) (plane a (i + 1)) g (x .holds),
-        (rw (enters-is w (a .p) (a .q) (plane a i) (plane a (i + 1)) c g up) at (x .since), rw (leaves-is w (a .p) (a .q) (plane a i) (plane a (i + 1)) c g up) at (x .until)),
-      )
-
-  pub index-once : (i j : ℕ) → Sized a → Within a c t i → Within a c t j → i ≡ j
-  index-once i j sized x y =
-      let here = stretch i x in
-      let there = stretch j y in
-      one-voxel w a c (sized .wide) (here .0) (there .0) (here .1 .0) (here .1 .1) (there .1 .0) (there .1 .1)
 
 module _ (s : Scene) (able : Able s) (f : Frame) where
   walk-once : (w w′ : Walk) → Begun s f w → Begun s f w′ → w ≡ w′

@@ -10,19 +10,20 @@ use lib.Dec.{leb}
 use Rattle.axis.specs.Leg.{factor, held, enters, leaves}
 use Rattle.axis.proofs.Flag.{or-left, or-right}
 use Rattle.ray.specs.Length.{Side, X, Y, Z, leg, rest, dOf, array, holds, start, stop, misses, partOf, crosses, crossedOf}
-use Rattle.walk.specs.declared.line.Scene.{Scene}
+use Rattle.line.specs.declared.scene.Scene.{Scene}
+use Rattle.line.specs.Scene.{legN, slabN, plane, line, volumeOf, rayOf, Able, Window, Within}
+use Rattle.line.specs.Reach.{crossedOn}
+use Rattle.line.proofs.Units.{enters-is, leaves-is, held-by}
+use Rattle.line.proofs.Three.{most-le, le-most, least-le, most-mono}
+use Rattle.line.proofs.Stretch.{plane-mono, enter-whole}
+use Rattle.line.proofs.Sizes.{two-sizes, three-sizes, factor-size}
+use Rattle.line.proofs.Scenes.{way, going, leg-is, enter, leave, start-array, rest-some, all-held}
 use Rattle.walk.specs.declared.steps.Walk.{Walk}
 use Rattle.walk.specs.declared.steps.Strides.{Strides}
 use Rattle.walk.specs.declared.plan.Frame.{Frame}
-use Rattle.walk.specs.Scene.{legN, slabN, plane, line, volumeOf, rayOf, Able, Window, Within}
 use Rattle.walk.specs.Model.{leaveOf, stepOf, jumpOf, Forward}
-use Rattle.walk.specs.Plan.{crossedOn, restOf, Framed, unit, Strided, Begun, Planned}
+use Rattle.walk.specs.Plan.{restOf, Framed, unit, Strided, Begun, Planned}
 use Rattle.ray.proofs.Way.{Way, up, down, still, Goes}
-use Rattle.walk.proofs.Units.{enters-is, leaves-is, held-by}
-use Rattle.walk.proofs.Three.{most-le, le-most, least-le, most-mono}
-use Rattle.walk.proofs.Stretch.{plane-mono, enter-whole}
-use Rattle.walk.proofs.Sizes.{two-sizes, three-sizes, factor-size}
-use Rattle.walk.proofs.Scenes.{way, going, leg-is, enter, leave, start-array, rest-some, all-held}
 use Rattle.walk.proofs.Hops.{Jump}
 use Rattle.walk.proofs.Walking.{Paced, Walking, soon-later}
 use Rattle.walk.proofs.Found.{found-list, found-parts}

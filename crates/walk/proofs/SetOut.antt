@@ -9,19 +9,19 @@ use lib.Dec.{ltb}
 use borrow.Author.Tests.{lt-ltb, le-ltb}
 use Rattle.axis.specs.Leg.{leaves}
 use Rattle.ray.specs.Length.{Side, X, Y, Z, rest, dOf, array, start, stop, misses}
-use Rattle.walk.specs.declared.line.Scene.{Scene}
+use Rattle.line.specs.declared.scene.Scene.{Scene}
+use Rattle.line.specs.Scene.{legN, slabN, plane, line, volumeOf, rayOf, Able, Within}
+use Rattle.line.proofs.Units.{leaveBy, leaves-is}
+use Rattle.line.proofs.Stretch.{plane-mono, depth}
+use Rattle.line.proofs.Sizes.{three-sizes, leave-size}
+use Rattle.line.proofs.Scenes.{way, going}
+use Rattle.line.proofs.Index.{index-within}
 use Rattle.walk.specs.declared.steps.Walk.{Walk}
 use Rattle.walk.specs.declared.steps.Strides.{Strides}
 use Rattle.walk.specs.declared.plan.Frame.{Frame}
-use Rattle.walk.specs.Scene.{legN, slabN, plane, line, volumeOf, rayOf, Able, Within}
 use Rattle.walk.specs.Model.{Forward}
 use Rattle.walk.specs.Plan.{restOf, Framed, unit, Strided, Begun}
-use Rattle.walk.proofs.Units.{leaveBy, leaves-is}
-use Rattle.walk.proofs.Stretch.{plane-mono, depth}
-use Rattle.walk.proofs.Sizes.{three-sizes, leave-size}
-use Rattle.walk.proofs.Scenes.{way, going}
 use Rattle.walk.proofs.Walking.{Paced, Walking}
-use Rattle.walk.proofs.Index.{index-within}
 use Rattle.walk.proofs.Plans.{rest-few, windows, proper, walking, paced, forward, begun, strided}
 
 pub record SetOut (s : Scene) : Type 0 where

@@ -8,18 +8,18 @@ use native.Mathlib.Nat.{le-antisymm, le-of-eq, le-trans, lt-of-lt-of-le, lt-of-l
 use lib.Dec.{eqb}
 use borrow.Author.Tests.{eq-eqb, eqb-true, eqb-false}
 use Rattle.ray.specs.Length.{Side, X, Y, Z, rest, dOf, count, array, index, voxel, start, stop, partOf}
-use Rattle.walk.specs.declared.line.Scene.{Scene}
+use Rattle.line.specs.declared.scene.Scene.{Scene}
+use Rattle.line.specs.Scene.{line, Able}
+use Rattle.line.proofs.Units.{HeldBy}
+use Rattle.line.proofs.Three.{most, least, most-le, le-most, least-le, least-one, lt-least, least-mono, most-mono, most-same, least-same}
+use Rattle.line.proofs.Stretch.{onward, Next, next, enter-whole, leave-whole, one-voxel}
+use Rattle.line.proofs.Scenes.{vol, ray, way, enter, leave, Held, start-voxel, stop-voxel, start-array, stop-array, met, part-met, rest-some}
 use Rattle.walk.specs.declared.steps.Walk.{Walk}
 use Rattle.walk.specs.declared.steps.Strides.{Strides}
-use Rattle.walk.specs.Scene.{line, Able}
 use Rattle.walk.specs.Model.{leaveOf, stepOf, jumpOf, soonest, stepped}
 use Rattle.walk.specs.Plan.{unit}
 use Rattle.ray.proofs.Way.{Way, up, down, still}
-use Rattle.walk.proofs.Units.{HeldBy}
-use Rattle.walk.proofs.Three.{most, least, most-le, le-most, least-le, least-one, lt-least, least-mono, most-mono, most-same, least-same}
-use Rattle.walk.proofs.Stretch.{onward, Next, next, enter-whole, leave-whole, one-voxel}
 use Rattle.ray.proofs.Indices.{number, index-number, number-below, index-below, index-same}
-use Rattle.walk.proofs.Scenes.{vol, ray, way, enter, leave, Held, start-voxel, stop-voxel, start-array, stop-array, met, part-met, rest-some}
 use Rattle.walk.proofs.Hops.{Jump, Left, number-small, all-over}
 
 -- the strides are those of the scene

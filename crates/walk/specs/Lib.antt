@@ -1,4 +1,4 @@
--- What the walk's functions say of a scene. The meaning is ray's: a scene is a volume and a ray whose coordinates have no sign.
-pub mod Scene
+-- What the walk's functions say of a scene.
 pub mod Model
 pub mod Plan
+pub mod Walked

@@ -1,37 +1,17 @@
 -- What is worked out of a scene before the walk. Definitions only. Assumes nothing.
 use Prim.Native.Nat.{ℕ, _+_, _*_, _^_, _≤_, _<_}
 use mathlib.Core.Path.{_≡_}
-use mathlib.Core.Bool.{Bool, _&&_, not, cond}
+use mathlib.Core.Bool.{not}
 use mathlib.Core.List.{map}
-use lib.IntN.{pos}
-use lib.Dec.{ltb}
-use Rattle.axis.specs.Leg.{moving, run, enters, leaves, held}
-use Rattle.ray.specs.Length.{Side, X, Y, Z, Volume, rest, dOf, array, start, stop, misses, partOf, listOf, total, crossedOf}
-use Rattle.walk.specs.declared.line.Line.{Line}
-use Rattle.walk.specs.declared.line.Scene.{Scene}
+use Rattle.axis.specs.Leg.{leaves}
+use Rattle.ray.specs.Length.{Side, X, Y, Z, Volume, rest, dOf, array, start, stop, misses, partOf, listOf, crossedOf}
+use Rattle.line.specs.declared.scene.Scene.{Scene}
+use Rattle.line.specs.Scene.{legN, slabN, plane, line, volumeOf, rayOf, Within}
 use Rattle.walk.specs.declared.steps.Walk.{Walk}
 use Rattle.walk.specs.declared.steps.Strides.{Strides}
-use Rattle.walk.specs.declared.reach.Reach.{Reach}
 use Rattle.walk.specs.declared.plan.Frame.{Frame}
 use Rattle.walk.specs.declared.plan.Plan.{Plan}
-use Rattle.walk.specs.Scene.{legN, slabN, plane, line, volumeOf, rayOf, Within}
 use Rattle.walk.specs.Model.{leaveOf, stepOf, jumpOf, voxels, parts, entries, Forward}
-
--- one axis against its first and last plane
-pub record Reached (a : Line) (c : ℕ) (r : Reach) : Type 0 where
-  pub from-is : r .from ≡ enters c (legN (a .p) (a .q)) (slabN (plane a 0) (plane a (a .n)))
-  pub to-is : r .to ≡ leaves c (legN (a .p) (a .q)) (slabN (plane a 0) (plane a (a .n)))
-  pub held-is : r .held ≡ held (legN (a .p) (a .q)) (slabN (plane a 0) (plane a (a .n)))
-  pub from-size : r .from ≤ 2 ^ 60
-  pub to-size : r .to ≤ 2 ^ 60
-
--- an axis' planes with a tick strictly between two
-abbrev pub crossAt : Line → (c from to i : ℕ) → Bool
-crossAt a c from to i =
-    let t : ℕ = run (legN (a .p) (a .q)) (pos (plane a i)) * c in moving (legN (a .p) (a .q)) && (ltb from t && ltb t to)
-
-abbrev pub crossedOn : Line → (c from to : ℕ) → ℕ
-crossedOn a c from to = total (λ i. cond (crossAt a c from to i) 1 0) (a .n + 1)
 
 abbrev pub restOf : Frame → Side → ℕ
 restOf f X = f .cx

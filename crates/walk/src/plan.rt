@@ -3,15 +3,15 @@ ghost use mathlib.Core.Path.{_≡_};
 ghost use mathlib.Core.Bool.{true, _&&_};
 ghost use lib.Dec.{ltb};
 ghost use Rattle.ray.specs.Length.{crossedOf};
-ghost use Rattle.walk.specs.Scene.{Able, volumeOf, rayOf};
+ghost use Rattle.line.specs.Scene.{Able, volumeOf, rayOf};
 ghost use Rattle.walk.specs.Plan.{Framed, Strided, Begun, Planned};
-use crate::extremes::least;
-use crate::extremes::most;
-use crate::line::Line;
-use crate::line::Scene;
-use crate::reach::Reach;
 use crate::steps::Strides;
 use crate::steps::Walk;
+use line::extremes::least;
+use line::extremes::most;
+use line::line::Line;
+use line::reach::Reach;
+use line::scene::Scene;
 
 // D, what is left of it without each axis, the ticks at which the ray comes into the array and goes out, and whether it does.
 pub struct Frame {

@@ -11,12 +11,10 @@ use mir.Syntax.{w32, w64}
 use mir.Val.{Fits, SFits, toZ, ofZ}
 use mir.ValLaws.{toZ-ofZ, toZ-pos}
 use Rattle.axis.specs.Leg.{natural}
+use Rattle.axis.proofs.Wide.{widen, wide-is}
 use borrow.Author.Needs.{needs}
 use Rattle.axis.proofs.raised.Statement.{statement}
 use Rattle.axis.proofs.raised.Tie as tie
-
-widen : (z : ℤ) → SFits w32 z → SFits w64 z
-widen z f = record { sfits = omega (arith, f .sfits) }
 
 mag-sub : (a b : ℕ) → mag (subℕ a b) ≤ a + b
 mag-sub a b = elim (decLt a b) [ yes h ↦ rw (lt-ltb a b h) (omega arith) | no h ↦ rw (le-ltb a b (omega arith)) (omega arith) ]
@@ -27,7 +25,7 @@ sum-fits (negsuc a) n f g = record { sfits = omega (arith, f .sfits, g .fits, ma
 
 -- what the code adds is the sum, and what it reads back of the sum's bits too
 sum-is : (z : ℤ) (n : ℕ) → SFits w32 z → Fits w32 n → toZ w64 (ofZ w64 (toZ w32 (ofZ w32 z))) +ℤ toZ w64 n ≡ z +ℤ pos n
-sum-is z n f g = rw (toZ-ofZ w32 z f, toZ-ofZ w64 z (widen z f), toZ-pos w64 n (omega (arith, g .fits)))
+sum-is z n f g = rw (wide-is z f, toZ-pos w64 n (omega (arith, g .fits)))
 
 back : (z : ℤ) (n : ℕ) → SFits w32 z → Fits w32 n → toZ w64 (ofZ w64 (toZ w64 (ofZ w64 (toZ w32 (ofZ w32 z))) +ℤ toZ w64 n)) ≡ z +ℤ pos n
 back z n f g = ap (λ (y : ℤ). toZ w64 (ofZ w64 y)) (sum-is z n f g) ∙ toZ-ofZ w64 (z +ℤ pos n) (sum-fits z n f g)
@@ -45,7 +43,7 @@ not-below (pos n) h = refl
 not-below (negsuc n) h = absurd (true≢false h)
 
 cast-sum : tie.Need-cast-sum
-cast-sum c = rw (toZ-ofZ w32 (c .args .c) (c .fits .c)) (widen (c .args .c) (c .fits .c))
+cast-sum c = rw (toZ-ofZ w32 (c .args .c) (c .fits .c)) (widen (c .fits .c))
 
 cast-sum-2 : tie.Need-cast-sum-2
 cast-sum-2 c = search needs

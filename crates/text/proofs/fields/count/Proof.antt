@@ -33,15 +33,12 @@ loop-less c = omega arith
 
 loop-again : tie.Need-loop-again Inv-loop μ-loop
 loop-again c =
-    let at-loop = c .before .before .before in
-    let s = at-loop .before .args .line .now in
-    let i = at-loop .loop .i in
+    let s = c .before .before .before .before .args .line .now in
+    let i = c .before .before .before .loop .i in
     ⊎-elim (λ w. omega (arith, count-here 9 s i (omega arith) (w .0 .taken))) (λ w. omega (arith, count-on 9 s i (omega arith) (w .0 .left))) (c .if1 .came)
 
 returns : tie.Need-returns Inv-loop μ-loop
-returns c =
-    let at-loop = c .before in
-    omega (arith, count-end 9 (at-loop .before .args .line .now) (at-loop .loop .i) (omega arith))
+returns c = let l = c .before in omega (arith, count-end 9 (l .before .args .line .now) (l .loop .i) (omega arith))
 
 pub count-spec : {M : Type 1} → statement M
 count-spec =

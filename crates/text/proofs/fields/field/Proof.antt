@@ -1,17 +1,13 @@
--- `text::fields::field` meets its contract. At each turn the fields from j on are those of the line from `at` on. Assumes nothing.
-use Prim.Native.Nat.{ℕ, _+_, _-_, _≤_}
-use mathlib.Core.Path.{_≡_, ap, _∙_}
+-- `text::fields::field` meets its contract. The loop keeps `Walk`. Assumes nothing.
+use Prim.Native.Nat.{_-_}
 use native.Mathlib.Omega.{arith}
 use borrow.Author.Needs.{needs}
-use lib.ListN.{length, drop, getD}
-use mathlib.Core.List.{[]}
-use Rattle.text.specs.Split.{split}
-use Rattle.text.proofs.Split.{end-within, walk-here, walk-rest, walk-on, past-here, past-rest}
+use Rattle.text.proofs.Split.{Walk, walk-on, walk-there, walk-past}
 use Rattle.text.proofs.fields.field.Statement.{statement}
 use Rattle.text.proofs.fields.field.Tie as tie
 
 abbrev Inv-loop : tie.InvT-loop
-Inv-loop line k at₀ j₀ at j = (at ≤ length line) × (j ≤ k) × (drop j (split 9 line) ≡ split 9 (drop at line))
+Inv-loop line k at₀ j₀ at j = Walk 9 line k j at
 
 abbrev μ-loop : tie.MeasureT-loop
 μ-loop line k at₀ j₀ at j = k - j
@@ -32,43 +28,16 @@ loop-less : tie.Need-loop-less Inv-loop μ-loop
 loop-less c = omega arith
 
 loop-again : tie.Need-loop-again Inv-loop μ-loop
-loop-again c =
-    let l = c .before .before .before in
-    (omega arith, omega arith, walk-on 9 (l .before .before .args .line .now) (l .loop .j) (l .loop .at) (c .before .field-end .result) (l .loop .inv .2) (c .before .field-end .ensures) (c .if1 .taken))
+loop-again c = walk-on (c .before .before .before .loop .inv) (c .before .field-end .ensures) (omega arith) (c .if1 .taken)
 
 returns : tie.Need-returns Inv-loop μ-loop
-returns c =
-    let l = c .before .before .before in
-    let s = l .before .before .args .line .now in
-    let k = l .before .before .args .k in
-    let within = end-within 9 s (l .loop .at) (l .loop .inv .0) in
-    let w = l .loop .inv .2 in
-    let ends = c .before .field-end .ensures in (
-      omega (arith, within, ends),
-      (
-        past-here 9 s (l .loop .j) (l .loop .at) (c .before .field-end .result) w ends (c .if1 .left) k (omega arith),
-        past-rest 9 s (l .loop .j) (l .loop .at) (c .before .field-end .result) w ends (c .if1 .left) k (omega arith),
-      ),
-    )
+returns c = walk-past (c .before .before .before .loop .inv) (c .before .field-end .ensures) (omega arith) (c .if1 .left)
 
 field-end-requires-2 : tie.Need-field-end-requires-2 Inv-loop μ-loop
 field-end-requires-2 c κs = search needs
 
 returns-2 : tie.Need-returns-2 Inv-loop μ-loop
-returns-2 c =
-    let l = c .before .before in
-    let s = l .before .before .args .line .now in
-    let k = l .before .before .args .k in
-    let j : l .loop .j ≡ k = omega arith in
-    let within = end-within 9 s (l .loop .at) (l .loop .inv .0) in
-    let w = l .loop .inv .2 in
-    let ends = c .field-end2 .ensures in (
-      omega (arith, within, ends),
-      (
-        walk-here 9 s (l .loop .j) (l .loop .at) (c .field-end2 .result) w ends ∙ ap (λ (n : ℕ). getD (split 9 s) n []) j,
-        walk-rest 9 s (l .loop .j) (l .loop .at) (c .field-end2 .result) w ends ∙ ap (λ (n : ℕ). drop (n + 1) (split 9 s)) j,
-      ),
-    )
+returns-2 c = walk-there (c .before .before .loop .inv) (c .field-end2 .ensures) (omega arith)
 
 pub field-spec : {M : Type 1} → statement M
 field-spec =

@@ -22,9 +22,7 @@ shared-slice-read-if1 : tie.Need-shared-slice-read-if1 Inv-loop μ-loop
 shared-slice-read-if1 c = omega arith
 
 returns : tie.Need-returns Inv-loop μ-loop
-returns c =
-    let at-loop = c .before .before .before in
-    omega (arith, until-here 9 (at-loop .before .args .line .now) (at-loop .loop .i) (omega arith) (c .if1 .taken))
+returns c = let l = c .before .before .before in omega (arith, until-here 9 (l .before .args .line .now) (l .loop .i) (omega arith) (c .if1 .taken))
 
 add-i : tie.Need-add-i Inv-loop μ-loop
 add-i c = omega arith
@@ -33,14 +31,10 @@ loop-less : tie.Need-loop-less Inv-loop μ-loop
 loop-less c = omega arith
 
 loop-again : tie.Need-loop-again Inv-loop μ-loop
-loop-again c =
-    let at-loop = c .before .before .before in
-    omega (arith, until-on 9 (at-loop .before .args .line .now) (at-loop .loop .i) (omega arith) (c .if1 .left))
+loop-again c = let l = c .before .before .before in omega (arith, until-on 9 (l .before .args .line .now) (l .loop .i) (omega arith) (c .if1 .left))
 
 returns-2 : tie.Need-returns-2 Inv-loop μ-loop
-returns-2 c =
-    let at-loop = c .before in
-    omega (arith, until-end 9 (at-loop .before .args .line .now) (at-loop .loop .i) (omega arith))
+returns-2 c = let l = c .before in omega (arith, until-end 9 (l .before .args .line .now) (l .loop .i) (omega arith))
 
 pub field-end-spec : {M : Type 1} → statement M
 field-end-spec =

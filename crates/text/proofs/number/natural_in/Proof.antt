@@ -1,54 +1,47 @@
--- `text::number::natural_in` meets its contract. At each turn the numeral says what the digits from i on say behind v. Assumes nothing.
-use Prim.Native.Nat.{_-_, _≤_, _<_}
-use mathlib.Core.Path.{_≡_, sym, ap, _∙_}
+-- `text::number::natural_in` meets its contract. The loop keeps `SoFar`. Assumes nothing.
+use Prim.Native.Nat.{_-_}
+use mathlib.Core.Path.{ap}
 use native.Mathlib.Omega.{arith}
-use lib.ListN.{length, drop}
-use Rattle.text.specs.Number.{digits, naturalOf, readNatural}
-use Rattle.text.proofs.Digits.{digits-end, digits-low, digits-high, digits-full, digits-on, natural-empty, natural-zero, natural-padded, natural-digits}
+use lib.ListN.{length}
+use Rattle.text.specs.Number.{readNatural}
+use Rattle.text.proofs.Digits.{SoFar, natural-empty, natural-zero, natural-padded, digits-begin, digits-end, digits-low, digits-high, digits-full, digits-on}
 use Rattle.text.proofs.number.natural_in.Statement.{statement}
 use Rattle.text.proofs.number.natural_in.Tie as tie
 
 abbrev Inv-loop : tie.InvT-loop
-Inv-loop t v₀ i₀ v i = (i ≤ length t) × (v < 1000000) × (naturalOf t ≡ digits v (drop i t))
+Inv-loop t v₀ i₀ v i = SoFar t v i
 
 abbrev μ-loop : tie.MeasureT-loop
 μ-loop t v₀ i₀ v i = length t - i
 
 returns : tie.Need-returns Inv-loop μ-loop
-returns c = sym (ap readNatural (natural-empty (c .before .args .t .now) (c .if1 .taken)))
+returns c = ap readNatural (natural-empty _ (c .if1 .taken))
 
 shared-slice-read-if2 : tie.Need-shared-slice-read-if2 Inv-loop μ-loop
 shared-slice-read-if2 c = omega arith
 
 returns-2 : tie.Need-returns-2 Inv-loop μ-loop
-returns-2 c = sym (ap readNatural (natural-zero (c .before .before .before .before .args .t .now) (c .before .if2 .taken) (c .if3 .taken)))
+returns-2 c = ap readNatural (natural-zero _ (c .before .if2 .taken) (c .if3 .taken))
 
 returns-3 : tie.Need-returns-3 Inv-loop μ-loop
-returns-3 c = sym (ap readNatural (natural-padded (c .before .before .before .before .args .t .now) (c .before .if2 .taken) (c .if3 .left)))
+returns-3 c = ap readNatural (natural-padded _ (c .before .if2 .taken) (c .if3 .left))
 
 loop-holds : tie.Need-loop-holds Inv-loop μ-loop
-loop-holds c = (omega arith, omega arith, natural-digits (c .before .before .before .args .t .now) (c .before .before .if1 .left) (c .if2 .left))
+loop-holds c = digits-begin _ (c .before .before .if1 .left) (c .if2 .left)
 
 shared-slice-read-d : tie.Need-shared-slice-read-d Inv-loop μ-loop
 shared-slice-read-d c = omega arith
 
 returns-4 : tie.Need-returns-4 Inv-loop μ-loop
-returns-4 c =
-    let l = c .before .before .before in
-    let t = l .before .before .before .before .args .t .now in
-    sym (ap readNatural (l .loop .inv .2 ∙ digits-low t (l .loop .i) (l .loop .v) (omega arith) (c .if4 .taken)))
+returns-4 c = ap readNatural (digits-low (c .before .before .before .loop .inv) (omega arith) (c .if4 .taken))
 
 returns-5 : tie.Need-returns-5 Inv-loop μ-loop
-returns-5 c =
-    let l = c .before .before .before .before in
-    let t = l .before .before .before .before .args .t .now in
-    sym (ap readNatural (l .loop .inv .2 ∙ digits-high t (l .loop .i) (l .loop .v) (omega arith) (c .before .if4 .left) (c .if5 .taken)))
+returns-5 c = ap readNatural (digits-high (c .before .before .before .before .loop .inv) (omega arith) (c .before .if4 .left) (c .if5 .taken))
 
 returns-6 : tie.Need-returns-6 Inv-loop μ-loop
 returns-6 c =
-    let l = c .before .before .before .before .before in
-    let t = l .before .before .before .before .args .t .now in
-    sym (ap readNatural (l .loop .inv .2 ∙ digits-full t (l .loop .i) (l .loop .v) (omega arith) (c .before .before .if4 .left) (c .before .if5 .left) (c .if6 .taken)))
+    let r = c .before .before .before .before .before .loop .inv in
+    ap readNatural (digits-full r (omega arith) (c .before .before .if4 .left) (c .before .if5 .left) (c .if6 .taken))
 
 mul-v : tie.Need-mul-v Inv-loop μ-loop
 mul-v c = omega arith
@@ -67,15 +60,11 @@ loop-less c = omega arith
 
 loop-again : tie.Need-loop-again Inv-loop μ-loop
 loop-again c =
-    let l = c .before .before .before .before .before in
-    let t = l .before .before .before .before .args .t .now in
-    (omega arith, omega arith, l .loop .inv .2 ∙ digits-on t (l .loop .i) (l .loop .v) (omega arith) (c .before .before .if4 .left) (c .before .if5 .left) (c .if6 .left))
+    let r = c .before .before .before .before .before .loop .inv in
+    digits-on r (omega arith) (c .before .before .if4 .left) (c .before .if5 .left) (c .if6 .left)
 
 returns-7 : tie.Need-returns-7 Inv-loop μ-loop
-returns-7 c =
-    let l = c .before in
-    let t = l .before .before .before .before .args .t .now in
-    sym (ap readNatural (l .loop .inv .2 ∙ digits-end t (l .loop .i) (l .loop .v) (c .loop-test .left)))
+returns-7 c = ap readNatural (digits-end (c .before .loop .inv) (c .loop-test .left))
 
 pub natural-in-spec : {M : Type 1} → statement M
 natural-in-spec =

@@ -1,15 +1,13 @@
 -- `text::numbers::integers` meets its contract. The loop keeps `Reading`. Assumes nothing.
-use Prim.Native.Nat.{_+_, _-_}
+use Prim.Native.Nat.{_-_}
 use native.Mathlib.Omega.{arith}
 use borrow.Author.Needs.{needs}
 use mathlib.Core.Path.{_≡_}
 use mir.Syntax.{w32}
 use mir.Val.{toZ, ofZ}
 use Rattle.text.specs.Number.{integerOf}
-use Rattle.text.specs.declared.number.Integer.the-variants.{Value, Bad}
-use Rattle.text.proofs.Split.{end-within}
 use Rattle.text.proofs.Sign.{integer-told}
-use Rattle.text.proofs.Every.{Reading, reading-begins, reading-ends, reading-short, reading-bad, reading-on}
+use Rattle.text.proofs.Every.{Reading, reading-begins, reading-ends, reading-short, reading-passed, reading-bad, reading-on}
 use Rattle.text.proofs.numbers.integers.Statement.{statement}
 use Rattle.text.proofs.numbers.integers.Tie as tie
 
@@ -23,19 +21,13 @@ field-requires : tie.Need-field-requires Inv-loop μ-loop
 field-requires c κs = search needs
 
 loop-holds : tie.Need-loop-holds Inv-loop μ-loop
-loop-holds c =
-    let a = c .before .before .args in
-    reading-begins integerOf (a .line .now) (a .k) (a .n) (a .out .now) (c .field .result .end) (omega arith) (c .field .ensures .1 .1)
+loop-holds c = reading-begins (omega arith) (c .field .ensures .1 .1)
 
 same-length : tie.Need-same-length Inv-loop μ-loop
 same-length c = c .before .before .loop .inv .kept
 
 returns : tie.Need-returns Inv-loop μ-loop
-returns c =
-    let l = c .before .before in
-    let a = l .before .before .before .args in
-    let o = l .loop in
-    reading-short integerOf (a .line .now) (a .k) (a .n) (a .out .now) (o .out) (o .end) (o .j) (o .inv) (omega arith) (omega arith)
+returns c = reading-short (c .before .before .loop .inv) (omega arith) (omega arith)
 
 add-at : tie.Need-add-at Inv-loop μ-loop
 add-at c = search needs
@@ -50,10 +42,7 @@ part-integer-in-start : tie.Need-part-integer-in-start Inv-loop μ-loop
 part-integer-in-start c = search needs
 
 part-integer-in-end : tie.Need-part-integer-in-end Inv-loop μ-loop
-part-integer-in-end c =
-    let l = c .before .before .before in
-    let a = l .before .before .before .args in
-    omega (arith, end-within 9 (a .line .now) (l .loop .end + 1) (omega arith))
+part-integer-in-end c = reading-passed (c .before .before .before .loop .inv) (omega arith) (omega arith) (c .field-end .ensures)
 
 integer-in-requires : tie.Need-integer-in-requires Inv-loop μ-loop
 integer-in-requires c κs = search needs
@@ -69,10 +58,9 @@ same-length-2 c = c .before .before .before .before .before .before .before .loo
 
 returns-2 : tie.Need-returns-2 Inv-loop μ-loop
 returns-2 c =
-    let l = c .before .before .before .before .before .before .before in
-    let a = l .before .before .before .args in
-    let o = l .loop in
-    reading-bad integerOf (a .line .now) (a .k) (a .n) (a .out .now) (o .out) (o .end) (o .j) (o .inv) (omega arith) (omega arith) (c .before .before .before .before .field-end .result) (c .before .before .before .before .field-end .ensures) (integer-told _ Bad (c .before .before .integer-in .ensures) (c .enum-told .given .1))
+    let passed = c .before .before .before .before in
+    reading-bad (passed .before .before .before .loop .inv) (omega arith) (omega arith) (passed .field-end .ensures)
+    (integer-told (c .before .before .integer-in .ensures) (c .enum-told .given .1))
 
 mul-v : tie.Need-mul-v Inv-loop μ-loop
 mul-v c = search needs
@@ -88,22 +76,19 @@ loop-less c = search needs
 
 loop-again : tie.Need-loop-again Inv-loop μ-loop
 loop-again c =
-    let l = c .before .before .before .before .before .before .before .before in
-    let a = l .before .before .before .args in
-    let o = l .loop in
-    let v = c .before .value .given .0 .0 in
-    let e : toZ w32 (ofZ w32 v) ≡ v = search needs in
-    rw e (reading-on integerOf (a .line .now) (a .k) (a .n) (a .out .now) (o .out) (o .end) (o .j) (o .inv) (omega arith) (omega arith) (c .before .before .before .before .before .field-end .result) (c .before .before .before .before .before .field-end .ensures) v (integer-told _ (Value (c .before .value .given .0 .0)) (c .before .before .before .integer-in .ensures) (c .before .value .given .1)) (omega arith))
+    let read = c .before in
+    let passed = read .before .before .before .before in
+    let e : toZ w32 (ofZ w32 (read .value .given .0 .0)) ≡ read .value .given .0 .0 = search needs in
+    rw e
+    (reading-on (passed .before .before .before .loop .inv) (omega arith) (omega arith) (passed .field-end .ensures)
+    (integer-told (read .before .before .integer-in .ensures) (read .value .given .1))
+    (omega arith))
 
 same-length-3 : tie.Need-same-length-3 Inv-loop μ-loop
 same-length-3 c = c .before .loop .inv .kept
 
 returns-3 : tie.Need-returns-3 Inv-loop μ-loop
-returns-3 c =
-    let l = c .before in
-    let a = l .before .before .before .args in
-    let o = l .loop in
-    reading-ends integerOf (a .line .now) (a .k) (a .n) (a .out .now) (o .out) (o .end) (o .j) (o .inv) (omega arith)
+returns-3 c = reading-ends (c .before .loop .inv) (omega arith)
 
 pub integers-spec : {M : Type 1} → statement M
 integers-spec =

@@ -1,12 +1,10 @@
 -- `text::numbers::naturals` meets its contract. The loop keeps `Reading`. Assumes nothing.
-use Prim.Native.Nat.{_+_, _-_}
+use Prim.Native.Nat.{_-_}
 use native.Mathlib.Omega.{arith}
 use borrow.Author.Needs.{needs}
 use Rattle.text.specs.Numbers.{naturalTo}
-use Rattle.text.specs.declared.number.Natural.the-variants.{Value, Bad}
-use Rattle.text.proofs.Split.{end-within}
 use Rattle.text.proofs.Sign.{natural-told}
-use Rattle.text.proofs.Every.{Reading, reading-begins, reading-ends, reading-short, reading-bad, reading-on, to-bad, to-over, to-good}
+use Rattle.text.proofs.Every.{Reading, reading-begins, reading-ends, reading-short, reading-passed, reading-bad, reading-on, to-bad, to-over, to-good}
 use Rattle.text.proofs.numbers.naturals.Statement.{statement}
 use Rattle.text.proofs.numbers.naturals.Tie as tie
 
@@ -20,19 +18,13 @@ field-requires : tie.Need-field-requires Inv-loop μ-loop
 field-requires c κs = search needs
 
 loop-holds : tie.Need-loop-holds Inv-loop μ-loop
-loop-holds c =
-    let a = c .before .before .before .args in
-    reading-begins (naturalTo (a .most)) (a .line .now) (a .k) (a .n) (a .out .now) (c .field .result .end) (omega arith) (c .field .ensures .1 .1)
+loop-holds c = reading-begins (omega arith) (c .field .ensures .1 .1)
 
 same-length : tie.Need-same-length Inv-loop μ-loop
 same-length c = c .before .before .loop .inv .kept
 
 returns : tie.Need-returns Inv-loop μ-loop
-returns c =
-    let l = c .before .before in
-    let a = l .before .before .before .before .args in
-    let o = l .loop in
-    reading-short (naturalTo (a .most)) (a .line .now) (a .k) (a .n) (a .out .now) (o .out) (o .end) (o .j) (o .inv) (omega arith) (omega arith)
+returns c = reading-short (c .before .before .loop .inv) (omega arith) (omega arith)
 
 add-at : tie.Need-add-at Inv-loop μ-loop
 add-at c = search needs
@@ -47,10 +39,7 @@ part-natural-in-start : tie.Need-part-natural-in-start Inv-loop μ-loop
 part-natural-in-start c = search needs
 
 part-natural-in-end : tie.Need-part-natural-in-end Inv-loop μ-loop
-part-natural-in-end c =
-    let l = c .before .before .before in
-    let a = l .before .before .before .before .args in
-    omega (arith, end-within 9 (a .line .now) (l .loop .end + 1) (omega arith))
+part-natural-in-end c = reading-passed (c .before .before .before .loop .inv) (omega arith) (omega arith) (c .field-end .ensures)
 
 natural-in-requires : tie.Need-natural-in-requires Inv-loop μ-loop
 natural-in-requires c κs = search needs
@@ -66,20 +55,19 @@ same-length-2 c = c .before .before .before .before .before .before .before .loo
 
 returns-2 : tie.Need-returns-2 Inv-loop μ-loop
 returns-2 c =
-    let l = c .before .before .before .before .before .before .before in
-    let a = l .before .before .before .before .args in
-    let o = l .loop in
-    reading-bad (naturalTo (a .most)) (a .line .now) (a .k) (a .n) (a .out .now) (o .out) (o .end) (o .j) (o .inv) (omega arith) (omega arith) (c .before .before .before .before .field-end .result) (c .before .before .before .before .field-end .ensures) (to-bad (a .most) _ (natural-told _ Bad (c .before .before .natural-in .ensures) (c .enum-told .given .1)))
+    let passed = c .before .before .before .before in
+    reading-bad (passed .before .before .before .loop .inv) (omega arith) (omega arith) (passed .field-end .ensures)
+    (to-bad _ _ (natural-told (c .before .before .natural-in .ensures) (c .enum-told .given .1)))
 
 same-length-3 : tie.Need-same-length-3 Inv-loop μ-loop
 same-length-3 c = c .before .before .before .before .before .before .before .before .before .loop .inv .kept
 
 returns-3 : tie.Need-returns-3 Inv-loop μ-loop
 returns-3 c =
-    let l = c .before .before .before .before .before .before .before .before .before in
-    let a = l .before .before .before .before .args in
-    let o = l .loop in
-    reading-bad (naturalTo (a .most)) (a .line .now) (a .k) (a .n) (a .out .now) (o .out) (o .end) (o .j) (o .inv) (omega arith) (omega arith) (c .before .before .before .before .before .before .field-end .result) (c .before .before .before .before .before .before .field-end .ensures) (to-over (a .most) _ (natural-told _ (Value (c .before .before .size .given .0 .0)) (c .before .before .before .before .natural-in .ensures) (c .before .before .size .given .1)) (c .if2 .taken))
+    let read = c .before .before in
+    let passed = read .before .before .before .before in
+    reading-bad (passed .before .before .before .loop .inv) (omega arith) (omega arith) (passed .field-end .ensures)
+    (to-over _ _ (natural-told (read .before .before .natural-in .ensures) (read .size .given .1)) (c .if2 .taken))
 
 mul-out : tie.Need-mul-out Inv-loop μ-loop
 mul-out c = search needs
@@ -95,20 +83,17 @@ loop-less c = search needs
 
 loop-again : tie.Need-loop-again Inv-loop μ-loop
 loop-again c =
-    let l = c .before .before .before .before .before .before .before .before .before in
-    let a = l .before .before .before .before .args in
-    let o = l .loop in
-    reading-on (naturalTo (a .most)) (a .line .now) (a .k) (a .n) (a .out .now) (o .out) (o .end) (o .j) (o .inv) (omega arith) (omega arith) (c .before .before .before .before .before .before .field-end .result) (c .before .before .before .before .before .before .field-end .ensures) (c .before .before .size .given .0 .0) (to-good (a .most) _ (natural-told _ (Value (c .before .before .size .given .0 .0)) (c .before .before .before .before .natural-in .ensures) (c .before .before .size .given .1)) (c .if2 .left)) (omega arith)
+    let read = c .before .before in
+    let passed = read .before .before .before .before in
+    reading-on (passed .before .before .before .loop .inv) (omega arith) (omega arith) (passed .field-end .ensures)
+    (to-good _ _ (natural-told (read .before .before .natural-in .ensures) (read .size .given .1)) (c .if2 .left))
+    (omega arith)
 
 same-length-4 : tie.Need-same-length-4 Inv-loop μ-loop
 same-length-4 c = c .before .loop .inv .kept
 
 returns-4 : tie.Need-returns-4 Inv-loop μ-loop
-returns-4 c =
-    let l = c .before in
-    let a = l .before .before .before .before .args in
-    let o = l .loop in
-    reading-ends (naturalTo (a .most)) (a .line .now) (a .k) (a .n) (a .out .now) (o .out) (o .end) (o .j) (o .inv) (omega arith)
+returns-4 c = reading-ends (c .before .loop .inv) (omega arith)
 
 pub naturals-spec : {M : Type 1} → statement M
 naturals-spec =

@@ -4,7 +4,8 @@ use mathlib.Core.Path.{_≡_, refl}
 use mathlib.Core.List.{_++_}
 use native.Mathlib.Omega.{arith}
 use lib.ListN.{length, take, length-set}
-use Rattle.text.proofs.Written.{copy-begins, copy-on, copy-ends}
+use lib.Seq.{take-all}
+use Rattle.text.proofs.Written.{copy-begins, copy-on}
 use Rattle.text.proofs.put.put_bytes.Statement.{statement}
 use Rattle.text.proofs.put.put_bytes.Tie as tie
 
@@ -47,8 +48,7 @@ same-length c = c .before .loop .inv .1
 returns : tie.Need-returns Inv-loop μ-loop
 returns c =
     let l = c .before in
-    let a = l .before .args in
-    (omega arith, copy-ends (l .loop .out) (a .out .now) (a .bytes .now) (a .at) (l .loop .i) (omega arith) (l .loop .inv .2))
+    (omega arith, rw (take-all (l .loop .i) (l .before .args .bytes .now) (omega arith)) at (l .loop .inv .2))
 
 pub put-bytes-spec : {M : Type 1} → statement M
 put-bytes-spec =

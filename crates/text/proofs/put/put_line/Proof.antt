@@ -19,8 +19,10 @@ same-length c = search needs
 
 returns : tie.Need-returns
 returns c =
-    let a = c .before .before .before .before .before .before .before .before .before .before .before .before .before .before .before .args in
-    (search needs, line-made (take (a .at) (a .out .now)) (a .word .now) (a .numbers .now) (c .before .before .before .before .before .before .before .before .before .before .put-bytes .ensures .1) (c .before .before .before .before .before .before .put-numbers .ensures .1) (c .before .before .put-byte .ensures .1))
+    let numbers = c .before .before .before .before .before .before in
+    let word = numbers .before .before .before .before in
+    let a = word .before .before .before .before .before .args in
+    (search needs, line-made (take (a .at) (a .out .now)) (a .word .now) (a .numbers .now) (word .put-bytes .ensures .1) (numbers .put-numbers .ensures .1) (c .before .before .put-byte .ensures .1))
 
 pub put-line-spec : {M : Type 1} → statement M
 put-line-spec =

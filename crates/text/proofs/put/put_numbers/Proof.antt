@@ -36,9 +36,10 @@ loop-less c = omega arith
 
 loop-again : tie.Need-loop-again Inv-loop μ-loop
 loop-again c =
-    let l = c .before .before .before .before .before .before in
-    let a = l .before .before .before .args in
-    (omega arith, omega (arith, c .before .before .put-spaced .kept), omega arith, numbers-on (take (l .loop .to) (l .loop .out)) (a .numbers .now) (l .loop .i) (omega arith) (l .loop .inv .3) (c .before .before .put-spaced .ensures .1))
+    let put = c .before .before in
+    let l = put .before .before .before .before in
+    let numbers = l .before .before .before .args .numbers .now in
+    (omega arith, omega (arith, put .put-spaced .kept), omega arith, numbers-on (take (l .loop .to) (l .loop .out)) numbers (l .loop .i) (omega arith) (l .loop .inv .3) (put .put-spaced .ensures .1))
 
 same-length : tie.Need-same-length Inv-loop μ-loop
 same-length c = c .before .loop .inv .1
@@ -46,8 +47,7 @@ same-length c = c .before .loop .inv .1
 returns : tie.Need-returns Inv-loop μ-loop
 returns c =
     let l = c .before in
-    let a = l .before .before .before .args in
-    (omega arith, numbers-end (a .numbers .now) (l .loop .i) (omega arith) (l .loop .inv .3))
+    (omega arith, numbers-end (l .before .before .before .args .numbers .now) (l .loop .i) (omega arith) (l .loop .inv .3))
 
 pub put-numbers-spec : {M : Type 1} → statement M
 put-numbers-spec =

@@ -5,7 +5,7 @@ use native.Mathlib.Omega.{arith}
 use lib.Dec.{ltb}
 use lib.ListN.{length}
 use borrow.Author.Tests.{ne-eqb, lt-ltb, le-ltb, not-false}
-use Rattle.walk.specs.Scene.{Able}
+use Rattle.line.specs.Scene.{Able}
 use Rattle.walk.proofs.Counts.{missed-list}
 use Rattle.tracing.specs.Answer.{codeOf}
 use Rattle.tracing.proofs.Answering.{able-so}

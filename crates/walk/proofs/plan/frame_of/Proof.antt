@@ -3,9 +3,9 @@ use mathlib.Core.Path.{_≡_}
 use native.Mathlib.Omega.{arith}
 use Rattle.axis.specs.Leg.{factor}
 use Rattle.ray.specs.Length.{X, Y, Z}
-use Rattle.walk.specs.declared.line.Line.{Line}
-use Rattle.walk.specs.Scene.{legN, Sized}
-use Rattle.walk.proofs.Sizes.{two-sizes, three-sizes, factor-size}
+use Rattle.line.specs.declared.line.Line.{Line}
+use Rattle.line.specs.Scene.{legN, Sized}
+use Rattle.line.proofs.Sizes.{two-sizes, three-sizes, factor-size}
 use Rattle.walk.proofs.Frames.{framed}
 use borrow.Author.Needs.{needs}
 use Rattle.walk.proofs.plan.frame_of.Statement.{statement}

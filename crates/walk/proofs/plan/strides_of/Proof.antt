@@ -2,7 +2,7 @@ use Prim.Native.Nat.{_^_}
 use native.Mathlib.Omega.{arith}
 use native.Mathlib.Nat.{mul-le-mul, mul-pos}
 use Rattle.ray.specs.Length.{X, Y, Z}
-use Rattle.walk.proofs.Sizes.{three-sizes}
+use Rattle.line.proofs.Sizes.{three-sizes}
 use Rattle.walk.proofs.Plans.{few, strided}
 use borrow.Author.Needs.{needs}
 use Rattle.walk.proofs.plan.strides_of.Statement.{statement}

@@ -2,8 +2,8 @@ use Prim.Native.Nat.{ℕ, _+_, _*_, _^_, _≤_, _<_}
 use native.Mathlib.Omega.{arith}
 use native.Mathlib.Nat.{mul-le-mul}
 use Rattle.ray.specs.Length.{X, Y, Z}
-use Rattle.walk.specs.declared.line.Scene.{Scene}
-use Rattle.walk.specs.Scene.{Able}
+use Rattle.line.specs.declared.scene.Scene.{Scene}
+use Rattle.line.specs.Scene.{Able}
 use Rattle.walk.proofs.Plans.{few, proper, windows, begun}
 use Rattle.walk.proofs.plan.walk_of.Statement.{statement}
 use Rattle.walk.proofs.plan.walk_of.Tie as tie

@@ -1,0 +1,23 @@
+use native.Mathlib.Nat.{zero-mul}
+use Rattle.line.proofs.Units.{moves, stays}
+use borrow.Author.Needs.{needs}
+use Rattle.line.proofs.line.Line.enter.Statement.{statement}
+use Rattle.line.proofs.line.Line.enter.Tie as tie
+
+returns : tie.Need-returns
+returns c = λ rest. let a = c .before .before .args .self in rw (stays (a .p) (a .q) (c .if1 .taken)) (zero-mul rest)
+
+run-requires : tie.Need-run-requires
+run-requires c κs = search needs
+
+run-requires-2 : tie.Need-run-requires-2
+run-requires-2 c κs = search needs
+
+least-requires : tie.Need-least-requires
+least-requires c κs = search needs
+
+returns-2 : tie.Need-returns-2
+returns-2 c = λ rest. let a = c .before .before .before .before .before .args .self in rw (moves (a .p) (a .q) (c .before .before .before .if1 .left), c .least .ensures, c .before .run2 .ensures, c .before .before .run .ensures)
+
+pub enter-spec : {M : Type 1} → statement M
+enter-spec = tie.close (tie.spec returns run-requires run-requires-2 least-requires returns-2)

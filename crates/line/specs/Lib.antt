@@ -1,0 +1,4 @@
+-- What is said of a line and of a scene. The meaning is ray's: a scene is a volume and a ray whose coordinates have no sign.
+pub mod Scene
+pub mod Reach
+pub mod Raised

@@ -1,0 +1,60 @@
+-- A scene read as a volume and a ray of crate ray, and what its sizes may be. Definitions only. Assumes nothing.
+use Prim.Native.Nat.{ℕ, _+_, _*_, _^_, _≤_, _<_}
+use mathlib.Core.Path.{_≡_}
+use mathlib.Core.Bool.{true}
+use lib.IntN.{pos}
+use Rattle.axis.specs.Leg.{Leg, Slab, held, enters, leaves}
+use Rattle.ray.specs.declared.Ray.{Ray}
+use Rattle.ray.specs.Length.{Side, X, Y, Z, Volume}
+use Rattle.line.specs.declared.line.Line.{Line}
+use Rattle.line.specs.declared.scene.Scene.{Scene}
+
+abbrev pub legN : ℕ → ℕ → Leg
+legN p q = record { p = pos p; q = pos q }
+
+abbrev pub slabN : ℕ → ℕ → Slab
+slabN lo hi = record { lo = pos lo; hi = pos hi }
+
+abbrev pub plane : Line → ℕ → ℕ
+plane a i = a .b + i * a .d
+
+abbrev pub line : Scene → Side → Line
+line s X = s .x
+line s Y = s .y
+line s Z = s .z
+
+abbrev pub volumeOf : Scene → Volume
+volumeOf s side = record { n = line s side .n; at = λ i. pos (plane (line s side) i) }
+
+abbrev pub rayOf : Scene → Ray
+rayOf s = record {
+  p = record { x = pos (s .x .p); y = pos (s .y .p); z = pos (s .z .p) };
+  q = record { x = pos (s .x .q); y = pos (s .y .q); z = pos (s .z .q) };
+}
+
+-- coordinates up to 2^20, so that every product of three differences fits 64 bits twice over
+pub record Sized (a : Line) : Type 0 where
+  pub some : 0 < a .n
+  pub wide : 0 < a .d
+  pub p-size : a .p ≤ 2 ^ 20
+  pub q-size : a .q ≤ 2 ^ 20
+  pub d-size : a .d ≤ 2 ^ 20
+  pub n-size : a .n ≤ 2 ^ 9
+  pub far-size : plane a (a .n) ≤ 2 ^ 20
+
+pub record Able (s : Scene) : Type 0 where
+  pub sized : (side : Side) → Sized (line s side)
+
+-- the tick t is within the array's planes on an axis
+pub record Window (a : Line) (c t : ℕ) : Type 0 where
+  pub some : 0 < c
+  pub holds : held (legN (a .p) (a .q)) (slabN (plane a 0) (plane a (a .n))) ≡ true
+  pub since : enters c (legN (a .p) (a .q)) (slabN (plane a 0) (plane a (a .n))) ≤ t
+  pub until : t < leaves c (legN (a .p) (a .q)) (slabN (plane a 0) (plane a (a .n)))
+
+-- and within the planes of its voxel i
+pub record Within (a : Line) (c t i : ℕ) : Type 0 where
+  pub inside : i < a .n
+  pub holds : held (legN (a .p) (a .q)) (slabN (plane a i) (plane a (i + 1))) ≡ true
+  pub since : enters c (legN (a .p) (a .q)) (slabN (plane a i) (plane a (i + 1))) ≤ t
+  pub until : t < leaves c (legN (a .p) (a .q)) (slabN (plane a i) (plane a (i + 1)))

@@ -1,0 +1,110 @@
+// One axis of a scene against the ray, in the axis' own units: a unit is α times the difference of the ends.
+ghost use mathlib.Core.Path.{_≡_};
+ghost use Prim.Native.Nat.{ℕ, _+_, _*_, _^_, _≤_, _<_};
+ghost use lib.IntN.{pos};
+ghost use Rattle.axis.specs.Leg.{factor, run, enters, leaves, held};
+ghost use Rattle.line.specs.Scene.{legN, slabN, plane, Sized, Window, Within};
+use crate::extremes::least;
+use crate::extremes::most;
+
+// The ray goes from p to q; plane i is at b + i * d, i from 0 to n.
+pub struct Line {
+    pub p: u64,
+    pub q: u64,
+    pub b: u64,
+    pub d: u64,
+    pub n: u64,
+}
+
+impl Line {
+    pub fn factor(self) -> u64
+        ensures { λ r. ⌜ r ≡ factor (legN (self .p) (self .q)) ⌝ }
+    {
+        if self.p < self.q {
+            return self.q - self.p;
+        }
+        if self.q < self.p {
+            return self.p - self.q;
+        }
+        1
+    }
+
+    // How far along the ray the place c is, 0 where it lies behind the start.
+    pub fn run(self, c: u64) -> u64
+        ensures { λ r. ⌜ r ≡ run (legN (self .p) (self .q)) (pos c) ⌝ }
+    {
+        let p = self.p;
+        if p < self.q {
+            if p < c { c - p } else { 0 }
+        } else {
+            if c < p { p - c } else { 0 }
+        }
+    }
+
+    // Where the ray comes in between the planes lo and hi.
+    pub fn enter(self, lo: u64, hi: u64) -> u64
+        ensures { λ r. ⌜ ((rest : ℕ) → r * rest ≡ enters rest (legN (self .p) (self .q)) (slabN lo hi)) ⌝ }
+    {
+        if self.p == self.q {
+            return 0;
+        }
+        least(self.run(lo), self.run(hi))
+    }
+
+    // Where it goes out of them; a still axis leaves it whole.
+    pub fn leave(self, lo: u64, hi: u64) -> u64
+        ensures { λ r. ⌜ ((rest : ℕ) → r * rest ≡ leaves rest (legN (self .p) (self .q)) (slabN lo hi)) ⌝ }
+    {
+        if self.p == self.q {
+            return 1;
+        }
+        most(self.run(lo), self.run(hi))
+    }
+
+    pub fn held(self, lo: u64, hi: u64) -> bool
+        ensures { λ r. ⌜ r ≡ held (legN (self .p) (self .q)) (slabN lo hi) ⌝ }
+    {
+        if self.p == self.q {
+            if lo <= self.p { self.p < hi } else { false }
+        } else {
+            true
+        }
+    }
+
+    pub fn plane(self, i: u64) -> u64
+        requires { ⌜ Sized self × (i ≤ self .n) ⌝ }
+        ensures { λ r. ⌜ r ≡ plane self i ⌝ }
+    {
+        self.b + i * self.d
+    }
+
+    // The voxel of the axis that the ray is in from the tick t on, in ticks of c to a unit: by one division, with no scan.
+    pub fn index(self, c: u64, t: u64) -> u64
+        requires { ⌜ Sized self ⌝ }
+        requires { ⌜ Window self c t ⌝ }
+        ensures { λ r. ⌜ Within self c t r ⌝ }
+    {
+        let g = t / c;
+        if self.p < self.q {
+            return (self.p + g - self.b) / self.d;
+        }
+        if self.q < self.p {
+            return (self.p - g - 1 - self.b) / self.d;
+        }
+        (self.p - self.b) / self.d
+    }
+
+    // What one voxel on, in the way of the ray, adds to the number modulo 2^64, where a voxel of the axis counts unit.
+    // A still axis is never left; its answer is that of a ray going down.
+    pub fn jump(self, unit: u64) -> u64
+        requires { ⌜ 0 < unit ⌝ }
+        ensures { λ r. ⌜ (self .p < self .q → r ≡ unit) ⌝ }
+        ensures { λ r. ⌜ (self .q ≤ self .p → r + unit ≡ 2 ^ 64) ⌝ }
+    {
+        if self.p < self.q {
+            unit
+        } else {
+            18446744073709551615 - (unit - 1)
+        }
+    }
+}

@@ -1,0 +1,74 @@
+use mathlib.Core.Path.{_≡_}
+use mathlib.Core.Bool.{true}
+use Rattle.line.specs.declared.scene.Scene.{Scene}
+use Rattle.line.specs.Scene.{Able}
+use Rattle.walk.specs.declared.plan.Frame.{Frame}
+use Rattle.walk.specs.Plan.{Framed, Planned}
+use Rattle.walk.proofs.Called.{few, from-to, hit-walked, miss-walked}
+use borrow.Author.Needs.{needs}
+use Rattle.walk.proofs.call.walk.Statement.{statement}
+use Rattle.walk.proofs.call.walk.Tie as tie
+
+module _ (c : tie.After-plan-of) where
+  abbrev s : Scene
+  s = c .before .before .before .before .before .before .args .s
+
+  able : Able s
+  able = c .before .before .before .before .before .before .pre .0
+
+  abbrev f : Frame
+  f = c .before .before .before .frame-of .result
+
+  framed : Framed s f
+  framed = c .before .before .before .frame-of .ensures
+
+  hit : f .hit ≡ true
+  hit = c .before .if1 .taken
+
+  planned : Planned s (f .to) (c .plan-of .result)
+  planned = c .plan-of .ensures .0
+
+frame-of-requires : tie.Need-frame-of-requires
+frame-of-requires c κs = search needs
+
+squared-of-requires : tie.Need-squared-of-requires
+squared-of-requires c κs = search needs
+
+plan-of-requires : tie.Need-plan-of-requires
+plan-of-requires c κs = search needs
+
+enter-requires : tie.Need-enter-requires
+enter-requires c κs =
+    let k = c .before .before in
+    (planned k .forward, (few (s k) (able k) (f k) (framed k) (hit k) _ (planned k), c .before .before .before .before .before .before .before .before .pre .1))
+
+sub-span : tie.Need-sub-span
+sub-span c = let k = c .before .before .before .before .before .before .before .before in from-to (s k) (able k) (f k) (framed k) (hit k) _ (planned k)
+
+same-length : tie.Need-same-length
+same-length c = search needs
+
+same-length-2 : tie.Need-same-length-2
+same-length-2 c = search needs
+
+returns : tie.Need-returns
+returns c =
+    let k = c .before .before .before .before .before .before .before .before in
+    hit-walked (s k) (able k) (f k) (framed k) (hit k) _ (planned k) _ _ (c .before .before .before .before .before .enter .ensures) (k .before .before .squared-of .ensures)
+
+returns-2 : tie.Need-returns-2
+returns-2 c = miss-walked _ (c .before .before .before .before .before .pre .0) _ (c .before .before .frame-of .ensures) (c .if1 .left) _ (c .before .squared-of .ensures)
+
+pub walk-spec : {M : Type 1} → statement M
+walk-spec =
+    tie.close
+    (tie.spec
+    frame-of-requires
+    squared-of-requires
+    plan-of-requires
+    enter-requires
+    sub-span
+    same-length
+    same-length-2
+    returns
+    returns-2)
