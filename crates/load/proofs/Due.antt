@@ -53,7 +53,7 @@ module _ {word : List ℕ} {own : ℕ} {s : Loaded} {l : List ℕ} {code : ℕ} 
     unfolding lineRead
     numbered = rw (le-ltb 4096 (length l) (h .short), ← (h .head), fine) refl
 
-    pub grid-line : dueAt (s .lines) (s .left) ≡ 0 → gridRead (gridIn (split 9 l)) ≡ lineRead word own s l
+    pub grid-line : dueAt (s .lines) (s .left) ≡ 0 → gridRead (s .limits) (gridIn (split 9 l)) ≡ lineRead word own s l
     unfolding numbersRead
     grid-line p = rw p at numbered
 

@@ -62,7 +62,7 @@ module _ (fields : List (List ℕ)) where
   grid-bad-plane e f = rw (e, f) refl
 
 -- the reader's answer, read back
-abbrev ofGrid : GridLine → Option Grid
+abbrev pub ofGrid : GridLine → Option Grid
 ofGrid (grid.Axes g) = some g
 ofGrid grid.Bad = none
 

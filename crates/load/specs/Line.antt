@@ -5,7 +5,8 @@ use mathlib.Core.List.{List, [], _∷_, _++_}
 use mathlib.Core.Option.{Option, none, some}
 use lib.Dec.{eqb, ltb}
 use lib.ListN.{length, getD}
-use Rattle.axis.specs.Codes.{tenths, Row, row, first}
+use Rattle.axis.specs.declared.Limits.{Limits}
+use Rattle.axis.specs.Codes.{Row, row, first}
 use Rattle.ray.specs.declared.Grid.{Grid}
 use Rattle.ray.specs.Length.{volume, count}
 use Rattle.ray.specs.Codes.{gridRows}
@@ -52,22 +53,22 @@ headRows word own due nx fields =
     row 21 (eqb kind 3) ∷ row 22 (not (eqb kind due)) ∷ row 23 (not (eqb (length fields) (fieldsOf own nx due))) ∷ []
 
 -- RULES 10.4 on a GRID line whose numbers are read: 1, 2, 3, then 25
-abbrev pub gridCode : Grid → ℕ
-gridCode g = first (gridRows tenths g ++ (row 25 (ltb 4096 (count (volume g))) ∷ []))
+abbrev pub gridCode : Limits → Grid → ℕ
+gridCode m g = first (gridRows m g ++ (row 25 (ltb 4096 (count (volume g))) ∷ []))
 
 -- RULES 10.4: code 24, and then the numbers of a line that is due
-abbrev pub gridRead : Option Grid → Reading
-gridRead none = refuses 24
-gridRead (some g) = unless (gridCode g) (takes (record { lines = 1; grid = g; left = g .y .n * g .z .n; densities = [] }))
+abbrev pub gridRead : Limits → Option Grid → Reading
+gridRead m none = refuses 24
+gridRead m (some g) = unless (gridCode m g) (takes (record { limits = m; lines = 1; grid = g; left = g .y .n * g .z .n; densities = [] }))
 
 abbrev pub densRead : Loaded → Option (List ℕ) → Reading
 densRead s none = refuses 24
-densRead s (some ds) = takes (record { lines = s .lines + 1; grid = s .grid; left = s .left - 1; densities = s .densities ++ ds })
+densRead s (some ds) = takes (record { limits = s .limits; lines = s .lines + 1; grid = s .grid; left = s .left - 1; densities = s .densities ++ ds })
 
 unfoldable pub numbersRead : Loaded → List (List ℕ) → Reading
 numbersRead s fields =
     let due : ℕ = dueAt (s .lines) (s .left) in
-    cond (eqb due 0) (gridRead (gridIn fields)) (cond (eqb due 1) (densRead s (densIn (s .grid .x .n) fields)) (leaves s))
+    cond (eqb due 0) (gridRead (s .limits) (gridIn fields)) (cond (eqb due 1) (densRead s (densIn (s .grid .x .n) fields)) (leaves s))
 
 -- RULES 10.4: a line that LF ends: 20, the refusals behind it in their order, and its numbers
 unfoldable pub lineRead : (word : List ℕ) → (own : ℕ) → Loaded → List ℕ → Reading

@@ -30,19 +30,17 @@ pub fn take_dens(st: Load, line: &[u8], densities: &mut [u16]) -> Took
     ensures { λ r. ⌜ kept st r ⌝ }
     ensures { λ r. ⌜ readingOf st r (now (densities .exit)) ≡ densRead (loadedOf st (now (densities .entry))) (densIn (st .grid .x .n) (split 9 (now (line .entry)))) ⌝ }
 {
-    let grid = st.grid;
-    let x = grid.x;
+    let x = st.grid.x;
     let nx = x.n as usize;
     let filled = st.filled;
     let mut row: [u32; 512] = [0; 512];
     if naturals(line, 0, nx, 65535, &mut row) {
         store(&row, nx, densities, filled);
-        return Took::In(Load {
-            grid,
-            lines: st.lines + 1,
-            left: st.left - 1,
-            filled: filled + nx,
-        });
+        let mut next = st;
+        next.lines = st.lines + 1;
+        next.left = st.left - 1;
+        next.filled = filled + nx;
+        return Took::In(next);
     }
     Took::Bad(24)
 }

@@ -1,15 +1,16 @@
 // A GRID line.
 ghost use mathlib.Core.Path.{_≡_};
 ghost use mathlib.Core.List.{List};
-ghost use Prim.Native.Nat.{ℕ};
+ghost use Prim.Native.Nat.{ℕ, _≤_};
 ghost use Rattle.text.specs.Split.{split};
 ghost use Rattle.load.specs.Numbers.{gridIn};
 ghost use Rattle.load.specs.Line.{gridCode, gridRead};
 ghost use Rattle.load.specs.Read.{readGrid, readingOf};
-ghost use Rattle.load.specs.Sound.{kept};
+ghost use Rattle.load.specs.Sound.{Sound, kept};
 use crate::line::Took;
 use crate::state::Load;
 use axis::Axis;
+use axis::Limits;
 use ray::Grid;
 use ray::check::grid_code;
 use text::numbers::integers;
@@ -51,10 +52,11 @@ fn grid_in(line: &[u8]) -> GridLine
 }
 
 // 1, 2, 3, or 25 where the grid has more than 4096 voxels; 0 where it is taken.
-fn taken_code(g: Grid) -> u32
-    ensures { λ r. ⌜ r ≡ gridCode g ⌝ }
+fn taken_code(m: Limits, g: Grid) -> u32
+    requires { ⌜ m .n ≤ 512 ⌝ }
+    ensures { λ r. ⌜ r ≡ gridCode m g ⌝ }
 {
-    let code = grid_code(g);
+    let code = grid_code(m, g);
     if code != 0 {
         return code;
     }
@@ -68,24 +70,27 @@ fn taken_code(g: Grid) -> u32
 }
 
 pub fn take_grid(st: Load, line: &[u8]) -> Took
-    requires { ⌜ st .lines ≡ 0 ⌝ }
+    requires { ⌜ Sound st × (st .lines ≡ 0) ⌝ }
     ensures { λ r. ⌜ kept st r ⌝ }
-    ensures { λ r. ⌜ ((ds : List ℕ) → readingOf st r ds ≡ gridRead (gridIn (split 9 (now (line .entry))))) ⌝ }
+    ensures { λ r. ⌜ ((ds : List ℕ) → readingOf st r ds ≡ gridRead (st .limits) (gridIn (split 9 (now (line .entry))))) ⌝ }
 {
     let read = grid_in(line);
     let GridLine::Axes(g) = read else {
         return Took::Bad(24);
     };
-    let code = taken_code(g);
+    let m = st.limits;
+    let code = taken_code(m, g);
     if code != 0 {
         return Took::Bad(code);
     }
     let y = g.y;
     let z = g.z;
+    let left = (y.n * z.n) as usize;
     Took::In(Load {
+        limits: m,
         grid: g,
         lines: 1,
-        left: (y.n * z.n) as usize,
+        left,
         filled: 0,
     })
 }

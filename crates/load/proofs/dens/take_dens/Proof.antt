@@ -20,7 +20,7 @@ use Rattle.load.proofs.dens.take_dens.Tie as tie
 
 module _ (c : tie.After-naturals) where
   abbrev s : tie.Start
-  s = c .before .before .before .before .before .before .before
+  s = c .before .before .before .before .before .before
 
   abbrev st : Load
   st = s .args .st
@@ -50,7 +50,7 @@ slice-aggregate-naturals : tie.Need-slice-aggregate-naturals
 slice-aggregate-naturals c = search needs
 
 naturals-requires : tie.Need-naturals-requires
-naturals-requires c κs = let s = c .before .before .before .before .before .before in its-sides (s .pre .0) (s .pre .1) .x .1
+naturals-requires c κs = let s = c .before .before .before .before .before in its-sides (s .pre .0) (s .pre .1) .x .1
 
 slice-aggregate-store : tie.Need-slice-aggregate-store
 slice-aggregate-store c = search needs
@@ -61,14 +61,14 @@ store-requires c κs =
     let k = t .before .before in
     (omega (arith, k .naturals .kept .1 .1 .1 .1 .0, nx-few k), omega (arith, fits k, s k .pre .3), few-bits (st k .grid .x .n) (fields k) (row k) (read-so k (t .if1 .taken)))
 
-add-t17 : tie.Need-add-t17
-add-t17 c = let k = c .before .before .before .before .before .before .before .before in omega (arith, s k .pre .0 .early, fits k)
+add-next : tie.Need-add-next
+add-next c = let k = c .before .before .before .before .before .before .before .before in omega (arith, s k .pre .0 .early, fits k)
 
-sub-t18 : tie.Need-sub-t18
-sub-t18 c = search needs
+sub-next : tie.Need-sub-next
+sub-next c = omega (arith, s (c .before .before .before .before .before .before .before .before .before) .pre .2)
 
-add-t19 : tie.Need-add-t19
-add-t19 c = omega (arith, fits (c .before .before .before .before .before .before .before .before .before))
+add-next-2 : tie.Need-add-next-2
+add-next-2 c = omega (arith, fits (c .before .before .before .before .before .before .before .before .before))
 
 same-length : tie.Need-same-length
 same-length c = search needs
@@ -78,7 +78,7 @@ returns c =
     let t = c .before .before .before .before .before .before .before in
     let k = t .before .before in
     let p = s k .pre in (
-      record { sound = sound-dens (p .0) (p .1) (p .2); lines = refl; loading = λ e. omega (arith, own-due (st k .lines) (st k .left) e .1, p .2) },
+      record { sound = sound-dens (p .0) (p .1) (p .2); limits = refl; lines = refl; loading = λ e. omega (arith, own-due (st k .lines) (st k .left) e .1, p .2) },
       ap (λ (ds : List ℕ). takes (holding (afterDens (st k)) ds)) (c .before .before .before .before .store .ensures) ∙ ap (now k) (sym (read-so k (t .if1 .taken))),
     )
 
@@ -96,9 +96,9 @@ take-dens-spec =
     naturals-requires
     slice-aggregate-store
     store-requires
-    add-t17
-    sub-t18
-    add-t19
+    add-next
+    sub-next
+    add-next-2
     same-length
     returns
     returns-2)

@@ -41,7 +41,7 @@ returns c = (tt, line-refused (checked (c .before)) (c .if1 .taken))
 take-grid-requires : tie.Need-take-grid-requires
 take-grid-requires c κs =
     let k = c .before .before in
-    grid-due (s k .args .st .lines) (s k .args .st .left) (due-is k (c .if2 .taken))
+    (s k .pre .0, grid-due (s k .args .st .lines) (s k .args .st .left) (due-is k (c .if2 .taken)))
 
 returns-2 : tie.Need-returns-2
 returns-2 c =
