@@ -43,7 +43,7 @@ joined (r ∷ rs) ys h =
     ap (cond (r .applies) (r .code)) (joined rs ys (and-right (ltb 0 (r .code)) _ h))
     ∙ row-then (r .code) (r .applies) (first rs) (first ys) (ltb-true 0 (r .code) (and-left (ltb 0 (r .code)) _ h))
 
-row-off : (c : ℕ) (t : Bool) (d : ℕ) → 0 < c → cond t c d ≡ 0 → (t ≡ false) × (d ≡ 0)
+pub row-off : (c : ℕ) (t : Bool) (d : ℕ) → 0 < c → cond t c d ≡ 0 → (t ≡ false) × (d ≡ 0)
 row-off c true d some h = absurd (omega arith)
 row-off c false d some h = (refl, h)
 

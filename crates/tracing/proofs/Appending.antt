@@ -12,15 +12,15 @@ use lib.ListN.{length, take, drop, length-drop, drop-of-length-le, take-append-d
 use lib.Seq.{drop-drop, take-length}
 use borrow.Author.Tests.{eq-eqb, ne-eqb, lt-ltb, le-ltb}
 use borrow.Rule.Slice.PartMut.{midOf, putMid, post-is}
-use Rattle.axis.specs.Codes.{tenths, first, row}
+use Rattle.axis.specs.declared.Limits.{Limits}
+use Rattle.axis.specs.Codes.{first, row}
 use Rattle.ray.specs.declared.Grid.{Grid}
 use Rattle.ray.specs.declared.Ray.{Ray}
-use Rattle.ray.specs.Length.{volume, count, partOf, listOf}
-use Rattle.ray.specs.Codes.{gridRows, endRows}
+use Rattle.ray.specs.declared.Lent.{Lent}
+use Rattle.ray.specs.Length.{volume, partOf, listOf}
+use Rattle.ray.specs.Codes.{frontRows}
 use Rattle.tracing.specs.declared.Trace.{Trace}
-use Rattle.tracing.specs.Answer.{codeOf, answerOf, written, voxelsAfter, partsAfter}
-use Rattle.tracing.proofs.Accepting.{in-stages}
-use Rattle.tracing.proofs.Answering.{Answers}
+use Rattle.tracing.specs.Answer.{Lists, lists, lent, codeOf, answerOf, written, voxelsAfter, partsAfter, Answers}
 
 -- what is put behind the places filled is put at the front of the tail
 behind : (filled : ℕ) (xs new : List ℕ) (b : Bool) → cond b (written filled new xs) xs ≡ take filled xs ++ cond b (written 0 new (drop filled xs)) (drop filled xs)
@@ -49,53 +49,53 @@ ltb-less a b c h = elim (decLt a (c + b)) [
   | no l ↦ le-ltb (a - c) (0 + b) (omega arith) ∙ sym (le-ltb a (c + b) (omega arith))
 ]
 
-module _ (g : Grid) (r : Ray) (vs ps : List ℕ) (filled : ℕ) (hv : filled ≤ length vs) (hp : filled ≤ length ps) where
-  same-code : (densities : ℕ) → codeOf g r densities (length vs) (length ps) filled ≡ codeOf g r densities (length (drop filled vs)) (length (drop filled ps)) 0
-  same-code densities =
-      in-stages g r densities (length vs) (length ps) filled
-      ∙ rw (
+module _ (m : Limits) (g : Grid) (r : Ray) (densities vs ps : List ℕ) (filled : ℕ) (hv : filled ≤ length vs) (hp : filled ≤ length ps) where
+  abbrev whole : Lists
+  whole = lists densities vs ps filled
+
+  abbrev tails : Lists
+  tails = lists densities (drop filled vs) (drop filled ps) 0
+
+  same-code : codeOf m g r (lent whole) ≡ codeOf m g r (lent tails)
+  same-code =
+      rw (
         length-drop filled vs,
         length-drop filled ps,
         eqb-less (length vs) (length ps) filled hv hp,
         ltb-less (length vs) (length (listOf (volume g) r)) filled hv,
       ) refl
-      ∙ sym (in-stages g r densities (length (drop filled vs)) (length (drop filled ps)) 0)
 
-  abbrev free : ℕ → Bool
-  free densities = eqb (codeOf g r densities (length (drop filled vs)) (length (drop filled ps)) 0) 0
+  abbrev free : Bool
+  free = eqb (codeOf m g r (lent tails)) 0
 
   -- Behind the places filled the answer and the lists are those of a trace with the tails as its lists (RULES 7).
-  pub answer-behind : (densities : List ℕ) → answerOf g r densities (length vs) (length ps) filled ≡ answerOf g r densities (length (drop filled vs)) (length (drop filled ps)) 0
+  pub answer-behind : answerOf m g r whole ≡ answerOf m g r tails
   unfolding answerOf
-  answer-behind densities = rw (same-code (length densities)) refl
+  answer-behind = rw same-code refl
 
-  pub voxels-behind : (densities : ℕ) → voxelsAfter g r densities vs ps filled ≡ take filled vs ++ voxelsAfter g r densities (drop filled vs) (drop filled ps) 0
+  pub voxels-behind : voxelsAfter m g r whole ≡ take filled vs ++ voxelsAfter m g r tails
   unfolding voxelsAfter
-  voxels-behind densities = rw (same-code densities) (behind filled vs (listOf (volume g) r) (free densities))
+  voxels-behind = rw same-code (behind filled vs (listOf (volume g) r) free)
 
-  pub parts-behind : (densities : ℕ) → partsAfter g r densities vs ps filled ≡ take filled ps ++ partsAfter g r densities (drop filled vs) (drop filled ps) 0
+  pub parts-behind : partsAfter m g r whole ≡ take filled ps ++ partsAfter m g r tails
   unfolding partsAfter
-  parts-behind densities = rw (same-code densities) (behind filled ps (map (partOf (volume g) r) (listOf (volume g) r)) (free densities))
+  parts-behind = rw same-code (behind filled ps (map (partOf (volume g) r) (listOf (volume g) r)) free)
 
   -- the same as the code has it: what a trace left in the tails, put back
-  pub tail-answers : (densities : List ℕ) (a : Trace) (tv tp : List ℕ)
-      → a ≡ answerOf g r densities (length (tail filled vs)) (length (tail filled ps)) 0
-      → tv ≡ voxelsAfter g r (length densities) (tail filled vs) (tail filled ps) 0
-      → tp ≡ partsAfter g r (length densities) (tail filled vs) (tail filled ps) 0
-      → Answers g r densities vs ps filled a (putMid filled (length vs - filled) vs tv) (putMid filled (length ps - filled) ps tp)
-  tail-answers densities a tv tp ea ev ep = record {
-    answer = rw (tail-is filled vs, tail-is filled ps) at ea ∙ sym (answer-behind densities);
-    voxels-now =
-        put-back filled vs tv hv ∙ ap (λ (ys : List ℕ). take filled vs ++ ys) (rw (tail-is filled vs, tail-is filled ps) at ev) ∙ sym (voxels-behind (length densities));
-    parts-now =
-        put-back filled ps tp hp ∙ ap (λ (ys : List ℕ). take filled ps ++ ys) (rw (tail-is filled vs, tail-is filled ps) at ep) ∙ sym (parts-behind (length densities));
-  }
+  pub tail-answers : {a : Trace} {tv tp : List ℕ} → Answers m g r (lists densities (tail filled vs) (tail filled ps) 0) a tv tp
+      → Answers m g r whole a (putMid filled (length vs - filled) vs tv) (putMid filled (length ps - filled) ps tp)
+  tail-answers {a} {tv} {tp} t =
+      let u = rw (tail-is filled vs, tail-is filled ps) at t in
+      record {
+        answer = u .answer ∙ sym answer-behind;
+        voxels-now = put-back filled vs tv hv ∙ ap (λ (ys : List ℕ). take filled vs ++ ys) (u .voxels-now) ∙ sym voxels-behind;
+        parts-now = put-back filled ps tp hp ∙ ap (λ (ys : List ℕ). take filled ps ++ ys) (u .parts-now) ∙ sym parts-behind;
+      }
 
 -- Where `filled` lies beyond the end of a list, the code is the table's with row 8 applying: the first of 1 to 7 that applies, else 8.
-pub code-beyond : (g : Grid) (r : Ray) (densities voxels parts filled : ℕ) → (voxels < filled) ⊎ (parts < filled)
-    → codeOf g r densities voxels parts filled
-    ≡ first (gridRows tenths g ++ (row 4 (not (eqb densities (count (volume g)))) ∷ []) ++ endRows tenths r ++ (row 7 (not (eqb voxels parts)) ∷ row 8 true ∷ []))
-code-beyond g r densities voxels parts filled h = elim (decLt voxels (filled + length (listOf (volume g) r))) [
-  | yes l ↦ rw (lt-ltb voxels (filled + length (listOf (volume g) r)) l) refl
-  | no l ↦ rw (ne-eqb voxels parts (⊎-elim (λ k e. omega arith) (λ k e. omega arith) h)) refl
+pub code-beyond : (m : Limits) (g : Grid) (r : Ray) (l : Lent) → (l .voxels < l .filled) ⊎ (l .parts < l .filled)
+    → codeOf m g r l ≡ first (frontRows m g r l ++ (row 8 true ∷ []))
+code-beyond m g r l h = elim (decLt (l .voxels) (l .filled + length (listOf (volume g) r))) [
+  | yes k ↦ rw (lt-ltb (l .voxels) (l .filled + length (listOf (volume g) r)) k) refl
+  | no k ↦ rw (ne-eqb (l .voxels) (l .parts) (⊎-elim (λ z e. omega arith) (λ z e. omega arith) h)) refl
 ]

@@ -1,5 +1,5 @@
 -- What RULES 3 and 4 say of the numbers that a trace hands back, for every grid and ends that are accepted, at any limits that are
--- small enough: the device's are (`tenths-small`). Assumes nothing.
+-- small enough. Assumes nothing.
 use Prim.Native.Nat.{ℕ, _+_, _-_, _^_, _≤_, _<_}
 use mathlib.Core.Path.{_≡_, refl, sym, ap, _∙_}
 use mathlib.Core.Bool.{Bool, true, false, cond}
@@ -8,7 +8,7 @@ use native.Mathlib.Omega.{arith}
 use lib.IntN.{pos}
 use lib.ListN.{length, getD}
 use Rattle.axis.specs.declared.Limits.{Limits}
-use Rattle.axis.specs.Codes.{tenths, first}
+use Rattle.axis.specs.Codes.{first}
 use Rattle.ray.specs.declared.Grid.{Grid}
 use Rattle.ray.specs.declared.Ray.{Ray}
 use Rattle.ray.specs.Length.{Volume, volume, dOf, array, start, stop, partOf, misses, spanOf, listOf, sumOf, crossedOf}
@@ -20,11 +20,11 @@ use Rattle.ray.proofs.Different.{differentOf}
 use Rattle.ray.proofs.Moved.{Moved, d-moved, part-moved, misses-moved, span-moved, list-moved, sum-moved, crossed-moved, different-moved}
 use Rattle.line.specs.declared.scene.Scene.{Scene}
 use Rattle.line.specs.Scene.{volumeOf, rayOf, Able}
-use Rattle.line.specs.Raised.{sceneOf}
-use Rattle.line.proofs.Raised.{Small, tenths-small, able, moved, d-tenths}
+use Rattle.line.specs.Raised.{Small, sceneOf}
+use Rattle.line.proofs.Raised.{able, moved, d-most}
 use Rattle.walk.proofs.Counts as Walked
-use Rattle.tracing.proofs.Weighing.{weighed-most}
-use Rattle.tracing.proofs.Hits.{weighed-list}
+use Rattle.tracing.specs.Inside.{Suited}
+use Rattle.tracing.proofs.Weighing.{weighed-most, weighed-list}
 
 -- what is handed back of a ray that misses
 pub record Nothing (v : Volume) (r : Ray) : Type 0 where
@@ -102,14 +102,18 @@ span-d v r = go (misses v r)
     go true = omega arith
     go false = less (stop r (array v)) (start r (array v)) (dOf r) (stop-cap r (array v))
 
-module _ (g : Grid) (r : Ray) (grid : first (gridRows tenths g) ≡ 0) (ends : first (endRows tenths r) ≡ 0) where
+module _ (m : Limits) (suited : Suited m) (g : Grid) (r : Ray) (grid : first (gridRows m g) ≡ 0) (ends : first (endRows m r) ≡ 0) where
   -- RULES 3: the most that D is
   pub d-small : dOf r ≤ 2 ^ 45
   d-small = omega (
     arith,
-    d-tenths g r ends,
-    d-moved (pos (tenths .coord)) (volume g) (volumeOf (sceneOf tenths g r)) r (rayOf (sceneOf tenths g r)) (on tenths tenths-small g r grid ends),
+    d-most m (suited .small .coord-some) g r ends,
+    suited .d-size,
+    d-moved (pos (m .coord)) (volume g) (volumeOf (sceneOf m g r)) r (rayOf (sceneOf m g r)) (on m (suited .small) g r grid ends),
   )
+
+  pub parts-small : sumList (map (partOf (volume g) r) (listOf (volume g) r)) ≤ 2 ^ 45
+  parts-small = omega (arith, parts-span m (suited .small) g r grid ends, span-d (volume g) r, d-small)
 
   -- RULES 3: the sum stays below 2^61, densities being at most 65535
   pub sum-small : (densities : List ℕ) → ((w : ℕ) → getD densities w 0 ≤ 65535) → sumOf (volume g) r densities < 2 ^ 61
@@ -118,7 +122,5 @@ module _ (g : Grid) (r : Ray) (grid : first (gridRows tenths g) ≡ 0) (ends : f
     sum-list (volume g) r densities,
     weighed-list (partOf (volume g) r) densities (listOf (volume g) r),
     weighed-most densities dense (listOf (volume g) r) (map (partOf (volume g) r) (listOf (volume g) r)),
-    parts-span tenths tenths-small g r grid ends,
-    span-d (volume g) r,
-    d-small,
+    parts-small,
   )

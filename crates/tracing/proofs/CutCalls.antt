@@ -9,7 +9,7 @@ use native.Mathlib.Decide.{decLt}
 use native.Mathlib.Nat.{zero-mul, mul-zero}
 use lib.ListN.{length, take}
 use Rattle.axis.specs.Leg.{moving}
-use Rattle.axis.specs.Codes.{tenths}
+use Rattle.axis.specs.declared.Limits.{Limits}
 use Rattle.ray.specs.declared.Grid.{Grid}
 use Rattle.ray.specs.declared.End.{End}
 use Rattle.ray.specs.declared.Ray.{Ray}
@@ -34,14 +34,14 @@ mean-as f f₁ f₂ d d₁ d₂ x x₁ x₂ e e₁ e₂ y y₁ y₂ hd hd₁ hd�
 mean-none : {f f₁ f₂ d d₁ d₂ x x₁ x₂ : ℕ} → MeanOf f f₁ f₂ d d₁ d₂ x x₁ x₂ → MeanOf f f₁ f₂ d d₁ d₂ 0 0 0
 mean-none h = record { f-pos = h .f-pos; d-pos = h .d-pos; d₁-pos = h .d₁-pos; d₂-pos = h .d₂-pos; is = simp (mul-zero, zero-mul) }
 
-module _ {g : Grid} {r : Ray} {densities vs ps vs′ ps′ : List ℕ} {a : Trace} (t : Traced g r densities vs ps a vs′ ps′) (h : a .code ≡ 0) where
+module _ {lim : Limits} {g : Grid} {r : Ray} {densities vs ps vs′ ps′ : List ℕ} {a : Trace} (t : Traced lim g r densities vs ps a vs′ ps′) (h : a .code ≡ 0) where
   share-is : (w : ℕ) → shareIn w a vs′ ps′ ≡ share w (listOf (volume g) r) (map (partOf (volume g) r) (listOf (volume g) r))
   share-is w = ap₂ (share w) (voxels-front t h .here) (parts-front t h .here)
 
-module _ {g : Grid} {r : Ray} {m : End} {densities vs ps vs′ ps′ : List ℕ} {a : Trace}
-    (between : Between r m) (whole : Traced g r densities vs ps a vs′ ps′) (h : a .code ≡ 0) where
+module _ {lim : Limits} {g : Grid} {r : Ray} {m : End} {densities vs ps vs′ ps′ : List ℕ} {a : Trace}
+    (between : Between r m) (whole : Traced lim g r densities vs ps a vs′ ps′) (h : a .code ≡ 0) where
   cut : Cuts (volume g) r m
-  cut = grid-cuts tenths g r m (free whole h .accepted .ends) between
+  cut = grid-cuts lim g r m (free whole h .accepted .ends) between
 
   -- PM and MQ make up PQ, and their quotients are the same on every moving axis
   pub cut-differences : (s : Side) → moving (leg r s) ≡ true → difference (near r m) s + difference (far r m) s ≡ difference r s
@@ -54,14 +54,14 @@ module _ {g : Grid} {r : Ray} {m : End} {densities vs ps vs′ ps′ : List ℕ}
   cut-quotient-far = cut .quotient-far
 
   module _ {vs₁ ps₁ vs₁′ ps₁′ vs₂ ps₂ vs₂′ ps₂′ : List ℕ} {a₁ a₂ : Trace}
-      (one : Traced g (near r m) densities vs₁ ps₁ a₁ vs₁′ ps₁′) (two : Traced g (far r m) densities vs₂ ps₂ a₂ vs₂′ ps₂′) where
+      (one : Traced lim g (near r m) densities vs₁ ps₁ a₁ vs₁′ ps₁′) (two : Traced lim g (far r m) densities vs₂ ps₂ a₂ vs₂′ ps₂′) where
     -- the pieces of an accepted ray are accepted, in lists that are as long
     pub cut-accepted : length vs₁ ≡ length ps₁ → length vs ≤ length vs₁ → length vs₂ ≡ length ps₂ → length vs ≤ length vs₂ → (a₁ .code ≡ 0) × (a₂ .code ≡ 0)
     cut-accepted lists₁ long₁ lists₂ long₂ =
         let few = joined-long (listOf (volume g) (near r m)) (listOf (volume g) (far r m)) in
         let ends = free whole h .accepted .ends in (
-          accepted-too whole h one (ends-near tenths r ends m between) (rw (cut .voxels) (few .0)) lists₁ long₁,
-          accepted-too whole h two (ends-far tenths r ends m between) (rw (cut .voxels) (few .1)) lists₂ long₂,
+          accepted-too whole h one (ends-near lim r ends m between) (rw (cut .voxels) (few .0)) lists₁ long₁,
+          accepted-too whole h two (ends-far lim r ends m between) (rw (cut .voxels) (few .1)) lists₂ long₂,
         )
 
     module _ (h₁ : a₁ .code ≡ 0) (h₂ : a₂ .code ≡ 0) where

@@ -19,8 +19,9 @@ use Rattle.ray.proofs.Apart.{starts-apart, follows}
 use Rattle.ray.proofs.Fraction.{Is}
 use Rattle.ray.proofs.Formula.{lengthIn, voxel-length}
 use Rattle.ray.proofs.Equation1.{equation1, equation1-is}
-use Rattle.tracing.specs.Answer.{answerOf}
-use Rattle.tracing.proofs.Hits.{getD-member}
+use Rattle.axis.specs.declared.Limits.{Limits}
+use Rattle.tracing.specs.Answer.{lists, answerOf}
+use Rattle.tracing.proofs.Summing.{getD-member}
 
 -- ---- lists
 rising-at : (f : ℕ → ℕ) (xs : List ℕ) → Rising f xs → (i j : ℕ) → i < j → j < length xs → f (getD xs i 0) < f (getD xs j 0)
@@ -87,6 +88,6 @@ module _ (g : Grid) (r : Ray) where
     pub sum-altered : sumOf (volume g) r (set densities w new) ≡ sumOf (volume g) r densities
     sum-altered = sum-outside (volume g) r (set densities w new) densities (λ u h. getD-set-other densities w u new 0 (λ e. outside (Memᴰ·cast (sym e) h)))
 
-    pub answer-altered : (voxels parts filled : ℕ) → answerOf g r (set densities w new) voxels parts filled ≡ answerOf g r densities voxels parts filled
+    pub answer-altered : (m : Limits) (vs ps : List ℕ) (filled : ℕ) → answerOf m g r (lists (set densities w new) vs ps filled) ≡ answerOf m g r (lists densities vs ps filled)
     unfolding answerOf
-    answer-altered voxels parts filled = rw (length-set densities w new, sum-altered) refl
+    answer-altered m vs ps filled = rw (length-set densities w new, sum-altered) refl

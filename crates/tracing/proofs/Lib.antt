@@ -1,14 +1,12 @@
 -- Laws of the trace.
 pub mod Accepting
 pub mod Weighing
-pub mod Hits
+pub mod Summing
 pub mod Answering
-pub mod Coding
 pub mod Appending
 pub mod Once
 pub mod Counted
 pub mod Demand2
-pub mod Free
 pub mod OneCall
 pub mod Room
 pub mod TurnedCalls

@@ -2,20 +2,18 @@
 use Prim.Native.Nat.{ℕ}
 use mathlib.Core.Path.{_≡_}
 use mathlib.Core.List.{List}
+use Rattle.axis.specs.declared.Limits.{Limits}
 use Rattle.axis.proofs.Once.{once}
 use Rattle.ray.specs.declared.Grid.{Grid}
 use Rattle.ray.specs.declared.Ray.{Ray}
+use Rattle.ray.specs.declared.Lent.{Lent}
 use Rattle.tracing.specs.declared.Trace.{Trace}
-use Rattle.tracing.specs.Answer.{codeOf}
-use Rattle.tracing.proofs.Answering.{Answers}
+use Rattle.tracing.specs.Answer.{Lists, codeOf, Answers}
 
--- `append`, and with `filled` 0 `trace`: the promises of both are the three equations of `Answers`
-pub append-once : (g : Grid) (r : Ray) (densities voxels parts : List ℕ) (filled : ℕ) (a a′ : Trace) (vs vs′ ps ps′ : List ℕ)
-    → Answers g r densities voxels parts filled a vs ps → Answers g r densities voxels parts filled a′ vs′ ps′
-    → (a ≡ a′) × ((vs ≡ vs′) × (ps ≡ ps′))
-append-once g r densities voxels parts filled a a′ vs vs′ ps ps′ x y =
-    (once (x .answer) (y .answer), (once (x .voxels-now) (y .voxels-now), once (x .parts-now) (y .parts-now)))
+-- `append`, and with `filled` 0 `trace`: the promises of both are `Answers`
+pub append-once : (m : Limits) (g : Grid) (r : Ray) (l : Lists) (a a′ : Trace) (vs vs′ ps ps′ : List ℕ)
+    → Answers m g r l a vs ps → Answers m g r l a′ vs′ ps′ → (a ≡ a′) × ((vs ≡ vs′) × (ps ≡ ps′))
+append-once m g r l a a′ vs vs′ ps ps′ x y = (once (x .answer) (y .answer), (once (x .voxels-now) (y .voxels-now), once (x .parts-now) (y .parts-now)))
 
-pub code-of-once : (g : Grid) (r : Ray) (densities voxels parts c e : ℕ)
-    → c ≡ codeOf g r densities voxels parts 0 → e ≡ codeOf g r densities voxels parts 0 → c ≡ e
-code-of-once g r densities voxels parts c e = once
+pub code-of-once : (m : Limits) (g : Grid) (r : Ray) (l : Lent) (c e : ℕ) → c ≡ codeOf m g r l → e ≡ codeOf m g r l → c ≡ e
+code-of-once m g r l c e = once

@@ -5,7 +5,7 @@ use mathlib.Core.Path.{_≡_, sym, ap, _∙_}
 use mathlib.Core.List.{List, reverse}
 use native.Mathlib.Omega.{arith}
 use lib.ListN.{length, take, length-reverse}
-use Rattle.axis.specs.Codes.{tenths}
+use Rattle.axis.specs.declared.Limits.{Limits}
 use Rattle.ray.specs.declared.Grid.{Grid}
 use Rattle.ray.specs.declared.Ray.{Ray}
 use Rattle.ray.specs.Length.{volume, listOf}
@@ -31,11 +31,11 @@ module _ (g : Grid) (r : Ray) where
     code = 0;
   }
 
-module _ {g : Grid} {r : Ray} {densities vs₁ ps₁ vs₁′ ps₁′ vs₂ ps₂ vs₂′ ps₂′ : List ℕ} {a₁ a₂ : Trace}
-    (there : Traced g r densities vs₁ ps₁ a₁ vs₁′ ps₁′) (back : Traced g (turned r) densities vs₂ ps₂ a₂ vs₂′ ps₂′) where
+module _ {lim : Limits} {g : Grid} {r : Ray} {densities vs₁ ps₁ vs₁′ ps₁′ vs₂ ps₂ vs₂′ ps₂′ : List ℕ} {a₁ a₂ : Trace}
+    (there : Traced lim g r densities vs₁ ps₁ a₁ vs₁′ ps₁′) (back : Traced lim g (turned r) densities vs₂ ps₂ a₂ vs₂′ ps₂′) where
   -- a ray that is accepted is accepted turned round, in lists that are as long
   pub turned-accepted : a₁ .code ≡ 0 → length vs₂ ≡ length ps₂ → length vs₁ ≤ length vs₂ → a₂ .code ≡ 0
-  turned-accepted h = accepted-too there h back (ends-turned tenths r ∙ free there h .accepted .ends) (omega (arith, as-many g r))
+  turned-accepted h = accepted-too there h back (ends-turned lim r ∙ free there h .accepted .ends) (omega (arith, as-many g r))
 
   module _ (h₁ : a₁ .code ≡ 0) (h₂ : a₂ .code ≡ 0) where
     -- entries, planes crossed, span, D, squared length and sum

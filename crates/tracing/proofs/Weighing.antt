@@ -1,12 +1,13 @@
 -- The weighted sum of a list of entries, entry by entry; of the ray's list it is ray's weighted sum. Assumes nothing.
 use Prim.Native.Nat.{ℕ, _+_, _*_, _≤_, _<_}
-use mathlib.Core.Path.{_≡_, refl, _∙_}
-use mathlib.Core.List.{List, [], _∷_, sum}
+use mathlib.Core.Path.{_≡_, refl, ap, _∙_}
+use mathlib.Core.List.{List, [], _∷_, map, sum}
 use native.Mathlib.Omega.{arith}
 use native.Mathlib.Numerals.{add-one}
 use native.Mathlib.Nat.{mul-le-mul-left, add-mul}
 use lib.ListN.{length, drop, getD, drop-of-length-le}
 use lib.Seq.{drop-cons}
+use Rattle.ray.proofs.Total.{sumList}
 use Rattle.tracing.specs.Inside.{weighed, summed}
 
 module _ (densities : List ℕ) (small : (v : ℕ) → getD densities v 0 ≤ 65535) where
@@ -16,6 +17,12 @@ module _ (densities : List ℕ) (small : (v : ℕ) → getD densities v 0 ≤ 65
   weighed-most [] ps = omega arith
   weighed-most (v ∷ vs) [] = omega arith
   weighed-most (v ∷ vs) (p ∷ ps) = omega (arith, weighed-most vs ps, mul-le-mul-left p (small v), add-mul p (summed ps) 65535)
+
+-- weighing the list with its parts is the sum over it
+pub weighed-list : (part : ℕ → ℕ) (densities vs : List ℕ) → weighed densities vs (map part vs) ≡ sumList (map (λ m. part m * getD densities m 0) vs)
+unfolding sum
+weighed-list part densities [] = refl
+weighed-list part densities (v ∷ vs) = ap (λ (x : ℕ). part v * getD densities v 0 + x) (weighed-list part densities vs)
 
 -- a loop over the entries: the whole is the sum so far and what is left
 pub record Weighing (densities vs ps : List ℕ) (so-far i : ℕ) : Type 0 where

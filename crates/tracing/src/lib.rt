@@ -1,7 +1,7 @@
 // The trace: which voxels a ray passes, how much of it lies in each, and the weighted sum.
 mod accept;
 pub mod calls;
-pub mod code;
+pub mod device;
 mod weigh;
 
 // What a trace hands back beside the two lists. Where the code is not 0 every other field is.
