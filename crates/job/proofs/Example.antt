@@ -1,6 +1,7 @@
 -- RULES 10.6: the example follows from the definitions. Assumes nothing.
 use mathlib.Core.List.{[], _∷_, _++_}
 use mathlib.Core.Path.{_≡_, refl}
+use Rattle.axis.specs.Codes.{tenths}
 use Rattle.ray.specs.Length.{partOf, misses, spanOf, insert, listTo, listOf, total, sumOf, crosses, crossedOf}
 use Rattle.text.specs.Split.{split}
 use Rattle.text.specs.Decimal.{digitsOf, decimal}
@@ -14,7 +15,7 @@ use Rattle.job.specs.Line.{lineStep}
 use Rattle.job.specs.Job.{linesFrom, jobFrom, jobOf}
 
 -- a line of the input or of the output on each line here
-pub example : jobOf (
+pub example : jobOf tenths (
     (71 ∷ 82 ∷ 73 ∷ 68 ∷ 9 ∷ 51 ∷ 9 ∷ 50 ∷ 9 ∷ 49 ∷ 9 ∷ 49 ∷ 48 ∷ 9 ∷ 49 ∷ 48 ∷ 9 ∷ 49 ∷ 48 ∷ 9 ∷ 48 ∷ 9 ∷ 48 ∷ 9 ∷ 48 ∷ 10 ∷ [])
     ++ (68 ∷ 69 ∷ 78 ∷ 83 ∷ 9 ∷ 49 ∷ 9 ∷ 50 ∷ 9 ∷ 51 ∷ 10 ∷ [])
     ++ (68 ∷ 69 ∷ 78 ∷ 83 ∷ 9 ∷ 52 ∷ 9 ∷ 53 ∷ 9 ∷ 54 ∷ 10 ∷ [])
@@ -30,6 +31,6 @@ unfolding partOf misses spanOf insert listTo listOf total sumOf crosses crossedO
 example = refl
 
 -- an empty input ends before the last DENS: BAD 1 22
-pub empty : jobOf [] ≡ 66 ∷ 65 ∷ 68 ∷ 32 ∷ 49 ∷ 32 ∷ 50 ∷ 50 ∷ 10 ∷ []
+pub empty : jobOf tenths [] ≡ 66 ∷ 65 ∷ 68 ∷ 32 ∷ 49 ∷ 32 ∷ 50 ∷ 50 ∷ 10 ∷ []
 unfolding split digitsOf decimal spaced lineOf linesFrom jobFrom jobOf
 empty = refl

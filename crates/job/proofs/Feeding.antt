@@ -13,7 +13,7 @@ use Rattle.job.specs.declared.state.State.{State}
 use Rattle.job.specs.declared.step.Pumped.{Pumped}
 use Rattle.load.specs.Cut.{Begun}
 use Rattle.job.specs.Sound.{Sound, room}
-use Rattle.job.specs.InAll.{Lists, starting, Pumping, another}
+use Rattle.job.specs.InAll.{Held, starting, Pumping, another}
 use Rattle.job.proofs.Lengths.{AsLong, as-long, still}
 
 module _ (p : Pumped) (piece out : ℕ) (fits : p .moved .at ≤ out) where
@@ -33,12 +33,12 @@ module _ (p : Pumped) (piece out : ℕ) (fits : p .moved .at ≤ out) where
       let z : _≡_ {A = ℕ} 0 1 = cc in omega arith
 
 -- The piece is taken from `from` on and answered from the start of the output. Until a byte is taken, all is as it was.
-pub record Feeding (st : State) (from : ℕ) (piece : List ℕ) (k₀ : Lists) (p : Pumped) (k : Lists) : Type 0 where
+pub record Feeding (st : State) (from : ℕ) (piece : List ℕ) (k₀ : Held) (p : Pumped) (k : Held) : Type 0 where
   pub kept : AsLong k₀ k
   pub taken : Pumping st 0 from piece k₀ p k
   pub first : from ≡ p .next → (p .moved .going ≡ true) × (p .moved .at ≡ 0)
 
-module _ {st : State} {from : ℕ} {piece : List ℕ} {k₀ : Lists} where
+module _ {st : State} {from : ℕ} {piece : List ℕ} {k₀ : Held} where
   pub feed-begins : Sound st → Begun (st .have) (k₀ .line) → from ≤ length piece → Feeding st from piece k₀ (starting st 0 from) k₀
   feed-begins s b h = record {
     kept = as-long;
@@ -46,11 +46,11 @@ module _ {st : State} {from : ℕ} {piece : List ℕ} {k₀ : Lists} where
     first = λ e. (refl, refl);
   }
 
-  module _ {k : Lists} {p : Pumped} (f : Feeding st from piece k₀ p k) where
+  module _ {k : Held} {p : Pumped} (f : Feeding st from piece k₀ p k) where
     pub room-now : p .moved .at ≤ length (k .out)
     room-now = omega (arith, f .taken .room, f .kept .out)
 
-    pub feed-on : {q : Pumped} {k′ : Lists} → p .moved .going ≡ true → p .next < q .next → AsLong k k′ → Pumping (p .moved .state) (p .moved .at) (p .next) piece k q k′ → Feeding st from piece k₀ q k′
+    pub feed-on : {q : Pumped} {k′ : Held} → p .moved .going ≡ true → p .next < q .next → AsLong k k′ → Pumping (p .moved .state) (p .moved .at) (p .next) piece k q k′ → Feeding st from piece k₀ q k′
     feed-on e on l h = record {
       kept = still (f .kept) l;
       taken = record {

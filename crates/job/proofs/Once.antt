@@ -8,6 +8,7 @@ use mathlib.Core.Path.{_≡_, refl, ap, sym, _∙_}
 use native.Mathlib.Omega.{arith}
 use lib.ListN.{length, take}
 use lib.Seq.{length-take-le}
+use Rattle.axis.specs.declared.Limits.{Limits}
 use Rattle.axis.proofs.Once.{once}
 use Rattle.text.proofs.Once.{put-once}
 use Rattle.job.specs.declared.state.State.{State}
@@ -18,24 +19,24 @@ use Rattle.job.specs.Stand.{Stand, atFirst, standOf}
 use Rattle.job.specs.Job.{jobFrom, jobOf}
 use Rattle.job.specs.Read.{written}
 use Rattle.job.specs.Sound.{room}
-use Rattle.job.specs.InAll.{Lists, alike}
+use Rattle.job.specs.InAll.{Held, alike}
 
-pub job-once : (input : List ℕ) (room : ℕ) (r s : Written) (out out′ : List ℕ)
-    → r ≡ written (jobOf input) room → (length (jobOf input) ≤ room → take (length (jobOf input)) out ≡ jobOf input)
-    → s ≡ written (jobOf input) room → (length (jobOf input) ≤ room → take (length (jobOf input)) out′ ≡ jobOf input)
-    → (r ≡ s) × (length (jobOf input) ≤ room → take (length (jobOf input)) out ≡ take (length (jobOf input)) out′)
-job-once input room r s out out′ e f e′ f′ = (once e e′, λ h. once (f h) (f′ h))
+pub job-once : (m : Limits) (input : List ℕ) (room : ℕ) (r s : Written) (out out′ : List ℕ)
+    → r ≡ written (jobOf m input) room → (length (jobOf m input) ≤ room → take (length (jobOf m input)) out ≡ jobOf m input)
+    → s ≡ written (jobOf m input) room → (length (jobOf m input) ≤ room → take (length (jobOf m input)) out′ ≡ jobOf m input)
+    → (r ≡ s) × (length (jobOf m input) ≤ room → take (length (jobOf m input)) out ≡ take (length (jobOf m input)) out′)
+job-once m input room r s out out′ e f e′ f′ = (once e e′, λ h. once (f h) (f′ h))
 
 none-filled : (n : ℕ) → take {A = ℕ} n (0 ∷ []) ≡ [] → n ≡ 0
 none-filled zero e = refl
 none-filled (suc n) e = let z : _≡_ {A = ℕ} 0 1 = cc in absurd (omega arith)
 
-pub new-once : (r s : State) → ((ds : List ℕ) → standOf r ds ≡ atFirst) → r .have ≡ 0 → ((ds : List ℕ) → standOf s ds ≡ atFirst) → s .have ≡ 0 → r ≡ s
-new-once r s x h y k =
+pub new-once : (m : Limits) (r s : State) → ((ds : List ℕ) → standOf r ds ≡ atFirst m) → r .have ≡ 0 → ((ds : List ℕ) → standOf s ds ≡ atFirst m) → s .have ≡ 0 → r ≡ s
+new-once m r s x h y k =
     let e : (ds : List ℕ) → standOf r ds ≡ standOf s ds = λ ds. once (x ds) (y ds) in
-    let empty : (st : State) → ((ds : List ℕ) → standOf st ds ≡ atFirst) → st .load .filled ≡ 0 = λ st z. none-filled (st .load .filled) (ap (λ (t : Stand). t .load .densities) (z (0 ∷ []))) in
+    let empty : (st : State) → ((ds : List ℕ) → standOf st ds ≡ atFirst m) → st .load .filled ≡ 0 = λ st z. none-filled (st .load .filled) (ap (λ (t : Stand). t .load .densities) (z (0 ∷ []))) in
     λ i. record {
-      load = record { grid = e [] i .load .grid; lines = e [] i .load .lines; left = e [] i .load .left; filled = once (empty r x) (empty s y) i };
+      load = record { limits = e [] i .load .limits; grid = e [] i .load .grid; lines = e [] i .load .lines; left = e [] i .load .left; filled = once (empty r x) (empty s y) i };
       rays = e [] i .rays;
       have = once h k i;
     }
@@ -49,7 +50,7 @@ finish-once st before line densities at r r′ out out′ o o′ begun h e h′ 
     put-once before (jobFrom (standOf st densities) (take (st .have) line)) at r r′ out out′ (omega arith) (omega arith) (e line densities begun) (e′ line densities begun)
 
 -- `r` and `s` are answers of `feed`, or of `pump`, called where `p` says
-module _ (piece : List ℕ) (p r s : Pumped) (k₀ k k′ : Lists) (e : alike piece p k₀ r k) (e′ : alike piece p k₀ s k′) where
+module _ (piece : List ℕ) (p r s : Pumped) (k₀ k k′ : Held) (e : alike piece p k₀ r k) (e′ : alike piece p k₀ s k′) where
   pub feed-once : alike piece r k s k′
   feed-once later = sym (e later) ∙ e′ later
 

@@ -3,9 +3,10 @@ use Prim.Native.Nat.{ℕ, _+_, _*_, _≤_, _<_}
 use mathlib.Core.List.{List, _++_, map, append-assoc, append-nil}
 use mathlib.Core.Path.{_≡_, refl, sym, _∙_}
 use lib.ListN.{length, getD, take, drop, drop-of-length-le}
-use lib.Seq.{drop-cons, length-take-le}
+use lib.Seq.{drop-cons}
 use native.Mathlib.Numerals.{add-one}
 use native.Mathlib.Omega.{arith}
+use Rattle.axis.specs.declared.Limits.{Limits}
 use Rattle.ray.specs.declared.Grid.{Grid}
 use Rattle.ray.specs.declared.Ray.{Ray}
 use Rattle.ray.specs.Length.{Volume, volume, partOf}
@@ -38,13 +39,9 @@ module _ {v : Volume} {voxels parts out₀ : List ℕ} {at : ℕ} where
     unfolding cells
     cells-end h = sym (p .same ∙ rw (drop-of-length-le voxels h) (append-nil (take to out)))
 
--- the first of the lists that a trace filled
-pub first-of : (n : ℕ) (l : List ℕ) → n ≤ 600 → length l ≡ 600 → length (take n l) ≡ n
-first-of n l h e = length-take-le n l (omega arith)
-
 -- a RAY line and its CELL lines
-pub ray-printed : {o₁ o₂ voxels parts : List ℕ} {t : Trace} (before : List ℕ) (g : Grid) (densities : List ℕ) (r : Ray) → t ≡ traced g densities r
-    → voxels ≡ passed g r → parts ≡ map (partOf (volume g) r) (passed g r) → o₁ ≡ before ++ lineOf RAY (figures t) → o₂ ≡ o₁ ++ cells (volume g) voxels parts
-    → o₂ ≡ before ++ rayText g densities r
+pub ray-printed : {o₁ o₂ voxels parts : List ℕ} {t : Trace} (before : List ℕ) (m : Limits) (g : Grid) (densities : List ℕ) (r : Ray) → t ≡ traced m g densities r
+    → voxels ≡ passed m g r → parts ≡ map (partOf (volume g) r) (passed m g r) → o₁ ≡ before ++ lineOf RAY (figures t) → o₂ ≡ o₁ ++ cells (volume g) voxels parts
+    → o₂ ≡ before ++ rayText m g densities r
 unfolding rayText
-ray-printed before g densities r e f h e₁ e₂ = e₂ ∙ rw (e₁, e, f, h) (append-assoc before (lineOf RAY (figures (traced g densities r))) _)
+ray-printed before m g densities r e f h e₁ e₂ = e₂ ∙ rw (e₁, e, f, h) (append-assoc before (lineOf RAY (figures (traced m g densities r))) _)

@@ -49,13 +49,13 @@ step-read st l densities densities′ e f = ap (stepOf (standOf st densities) l)
 
 module _ {st : State} (s : Sound st) where
   pub sound-in : {next : Load} → load.Further (st .load) next → Sound (record { load = next; rays = st .rays; have = st .have })
-  sound-in f = record { load = f .sound; early = λ h. s .early (f .loading) }
+  sound-in f = record { suited = rw (f .limits) (s .suited); load = f .sound; early = λ h. s .early (f .loading) }
 
   module _ (all : due st ≡ 2) where
     pub sound-ray : Sound (record { load = st .load; rays = st .rays + 1; have = st .have })
-    sound-ray = record { load = s .load; early = λ h. absurd (h all) }
+    sound-ray = record { suited = s .suited; load = s .load; early = λ h. absurd (h all) }
 
-    pub taken : Taken (st .load .grid) (st .load .filled)
+    pub taken : Taken (st .load .limits) (st .load .grid) (st .load .filled)
     taken =
         let d = own-due (st .load .lines) (st .load .left) all in
-        record { accepted = s .load .accepted (λ z. omega (arith, d .0)); few = s .load .few; whole = omega (arith, rw (d .1) at (s .load .loaded)) }
+        record { suited = s .suited; accepted = s .load .accepted (λ z. omega (arith, d .0)); few = s .load .few; whole = omega (arith, rw (d .1) at (s .load .loaded)) }

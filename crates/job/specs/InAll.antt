@@ -13,13 +13,13 @@ use Rattle.job.specs.Job.{jobFrom}
 use Rattle.job.specs.Sound.{Sound, read, room}
 
 -- what stands in the lists lent
-pub record Lists : Type 0 where
+pub record Held : Type 0 where
   pub line : List ℕ
   pub densities : List ℕ
   pub out : List ℕ
 
-abbrev pub lists : (line densities out : List ℕ) → Lists
-lists line densities out = record { line = line; densities = densities; out = out }
+abbrev pub held : (line densities out : List ℕ) → Held
+held line densities out = record { line = line; densities = densities; out = out }
 
 -- the job goes on, and the piece is still to be taken from `from` on
 abbrev pub starting : State → (at from : ℕ) → Pumped
@@ -36,17 +36,17 @@ onward st line densities rest = jobFrom (standOf st densities) (take (st .have) 
 
 -- the bytes that stand in the output, and behind them what the job prints on the line that has begun, the rest of the piece, and
 -- whatever comes later
-abbrev pub inAll : Pumped → Lists → (piece later : List ℕ) → List ℕ
+abbrev pub inAll : Pumped → Held → (piece later : List ℕ) → List ℕ
 inAll p k piece later =
     take (p .moved .at) (k .out) ++ more (p .moved .going) (onward (p .moved .state) (k .line) (k .densities) (drop (p .next) piece ++ later))
 
 -- from both places the job prints the same in all, whatever comes later
-abbrev pub alike : (piece : List ℕ) → Pumped → Lists → Pumped → Lists → Type 0
+abbrev pub alike : (piece : List ℕ) → Pumped → Held → Pumped → Held → Type 0
 alike piece p k p′ k′ = (later : List ℕ) → inAll p k piece later ≡ inAll p′ k′ piece later
 
 -- The piece is taken in from `from` on and answered behind `at`. Each line that is read took a byte of the piece, and so did each byte
 -- that stands of the next line.
-pub record Pumping (st : State) (at from : ℕ) (piece : List ℕ) (k : Lists) (r : Pumped) (k′ : Lists) : Type 0 where
+pub record Pumping (st : State) (at from : ℕ) (piece : List ℕ) (k : Held) (r : Pumped) (k′ : Held) : Type 0 where
   pub sound : Sound (r .moved .state)
   pub begun : Begun (r .moved .state .have) (k′ .line)
   pub lines : read (r .moved .state) + from ≤ read st + r .next
@@ -62,7 +62,7 @@ another p piece out = p .moved .going && (ltb (p .next) piece && leb room (out -
 
 -- The next part of the output is answered from the start of the list `out`, up to the end of the input or not, and then the job goes
 -- on behind it or is over.
-pub record Turned (input : List ℕ) (st : State) (next : ℕ) (k : Lists) (r : Pumped) (k′ : Lists) : Type 0 where
+pub record Turned (input : List ℕ) (st : State) (next : ℕ) (k : Held) (r : Pumped) (k′ : Held) : Type 0 where
   pub sound : Sound (r .moved .state)
   pub begun : Begun (r .moved .state .have) (k′ .line)
   pub counted : read (r .moved .state) + r .moved .state .have ≤ r .next

@@ -3,6 +3,7 @@ use Prim.Native.Nat.{ℕ}
 use mathlib.Core.Bool.{cond}
 use mathlib.Core.List.{List, [], _∷_, _++_}
 use lib.Dec.{eqb}
+use Rattle.axis.specs.declared.Limits.{Limits}
 use Rattle.text.specs.Split.{split}
 use Rattle.text.specs.Line.{lineOf}
 use Rattle.load.specs.Loaded.{dueAt}
@@ -29,9 +30,9 @@ linesFrom s [] = []
 linesFrom s (l ∷ []) = atEnd s l
 linesFrom s (l ∷ m ∷ ms) = andThen (lineStep s l) (λ s′. linesFrom s′ (m ∷ ms))
 
--- RULES 10.1: what the job prints from where it stands, its lines parted by LF; and the whole job
+-- RULES 10.1: what the job prints from where it stands, its lines parted by LF; and the whole job, at the limits of a device
 unfoldable pub jobFrom : Stand → List ℕ → List ℕ
 jobFrom s bytes = linesFrom s (split 10 bytes)
 
-unfoldable pub jobOf : List ℕ → List ℕ
-jobOf bytes = jobFrom atFirst bytes
+unfoldable pub jobOf : Limits → List ℕ → List ℕ
+jobOf m bytes = jobFrom (atFirst m) bytes

@@ -35,7 +35,7 @@ rayIn fields = Option·map rayOf (every integerOf 6 (drop 1 fields))
 
 abbrev pub rayStep : Stand → Option Ray → Step
 rayStep s none = stops (refusal s 24)
-rayStep s (some r) = goes (rayText (s .load .grid) (s .load .densities) r) (record { load = s .load; rays = s .rays + 1 })
+rayStep s (some r) = goes (rayText (s .load .limits) (s .load .grid) (s .load .densities) r) (record { load = s .load; rays = s .rays + 1 })
 
 -- what a line comes to that the loader takes in, refuses, or leaves to the job
 abbrev pub stepOf : Stand → List ℕ → Reading → Step

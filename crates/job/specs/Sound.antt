@@ -4,10 +4,12 @@ use mathlib.Core.Bool.{Bool, true, false}
 use mathlib.Core.List.{List, _++_}
 use mathlib.Core.Path.{_≡_}
 use lib.ListN.{take}
-use Rattle.axis.specs.Codes.{tenths, first}
+use Rattle.axis.specs.declared.Limits.{Limits}
+use Rattle.axis.specs.Codes.{first}
 use Rattle.ray.specs.declared.Grid.{Grid}
 use Rattle.ray.specs.Length.{volume, count}
 use Rattle.ray.specs.Codes.{gridRows}
+use Rattle.tracing.specs.Inside.{Suited}
 use Rattle.load.specs.Loaded.{dueAt}
 use Rattle.load.specs.Sound as load
 use Rattle.job.specs.declared.state.State.{State}
@@ -15,9 +17,10 @@ use Rattle.job.specs.declared.state.Moved.{Moved}
 use Rattle.job.specs.Stand.{Stand, standOf}
 use Rattle.job.specs.Line.{Step, goes, stops}
 
--- a grid that the job takes, with all its densities
-pub record Taken (g : Grid) (densities : ℕ) : Type 0 where
-  pub accepted : first (gridRows tenths g) ≡ 0
+-- a grid that the job takes at limits that suit a trace, with all its densities
+pub record Taken (m : Limits) (g : Grid) (densities : ℕ) : Type 0 where
+  pub suited : Suited m
+  pub accepted : first (gridRows m g) ≡ 0
   pub few : count (volume g) ≤ 4096
   pub whole : densities ≡ count (volume g)
 
@@ -28,8 +31,9 @@ due st = dueAt (st .load .lines) (st .load .left)
 abbrev pub read : State → ℕ
 read st = st .load .lines + st .rays
 
--- what is loaded is sound, and no ray is answered before all is
+-- the limits suit a trace, what is loaded is sound, and no ray is answered before all is
 pub record Sound (st : State) : Type 0 where
+  pub suited : Suited (st .load .limits)
   pub load : load.Sound (st .load)
   pub early : (due st ≡ 2 → ⊥) → st .rays ≡ 0
 

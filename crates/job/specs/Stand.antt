@@ -1,6 +1,7 @@
 -- RULES 10.3: where the job stands between two lines. Definitions only. Assumes nothing.
 use Prim.Native.Nat.{ℕ}
 use mathlib.Core.List.{List}
+use Rattle.axis.specs.declared.Limits.{Limits}
 use Rattle.load.specs.Loaded.{Loaded, nothing, loadedOf}
 use Rattle.job.specs.declared.state.State.{State}
 
@@ -9,8 +10,8 @@ pub record Stand : Type 0 where
   pub load : Loaded
   pub rays : ℕ
 
-abbrev pub atFirst : Stand
-atFirst = record { load = nothing; rays = 0 }
+abbrev pub atFirst : Limits → Stand
+atFirst m = record { load = nothing m; rays = 0 }
 
 -- what a state says, where the densities read are the first of a list
 abbrev pub standOf : State → List ℕ → Stand

@@ -5,7 +5,7 @@ ghost use Prim.Native.Nat.{_+_, _^_, _≤_, _<_};
 ghost use lib.ListN.{length};
 ghost use Rattle.load.specs.Cut.{Begun};
 ghost use Rattle.job.specs.Sound.{Sound, Buffers, read, room};
-ghost use Rattle.job.specs.InAll.{lists, Pumping, another};
+ghost use Rattle.job.specs.InAll.{held, Pumping, another};
 use crate::state::Moved;
 use crate::state::State;
 use crate::step::Pumped;
@@ -39,7 +39,7 @@ pub fn feed(
     requires { ⌜ (room ≤ length (now out)) × (from ≤ length (now piece)) × (read st + length (now piece) < 2 ^ 64 + from) ⌝ }
     ensures { λ r. ⌜ (from < length (now (piece .entry)) → from < r .next) ⌝ }
     ensures { λ r. ⌜ another r (length (now (piece .entry))) (length (now (out .entry))) ≡ false ⌝ }
-    ensures { λ r. ⌜ Pumping st 0 from (now (piece .entry)) (lists (now (line .entry)) (now (densities .entry)) (now (out .entry))) r (lists (now (line .exit)) (now (densities .exit)) (now (out .exit))) ⌝ }
+    ensures { λ r. ⌜ Pumping st 0 from (now (piece .entry)) (held (now (line .entry)) (now (densities .entry)) (now (out .entry))) r (held (now (line .exit)) (now (densities .exit)) (now (out .exit))) ⌝ }
 {
     let mut p = Pumped {
         moved: Moved {

@@ -4,9 +4,11 @@ ghost use mathlib.Core.Bool.{false};
 ghost use mathlib.Core.List.{List, _++_};
 ghost use Prim.Native.Nat.{ℕ};
 ghost use lib.ListN.{length, take};
+ghost use Rattle.tracing.specs.Inside.{Suited};
 ghost use Rattle.load.specs.Line.{badLine};
 ghost use Rattle.job.specs.Stand.{atFirst, standOf};
 ghost use Rattle.job.specs.Sound.{Sound, Ready, Kept, read};
+use axis::Limits;
 use load::bad::put_bad;
 use load::state::Load;
 
@@ -27,12 +29,13 @@ pub struct Moved {
 
 impl State {
     // Nothing is read.
-    pub fn new() -> State
-        ensures { λ r. ⌜ ((ds : List ℕ) → standOf r ds ≡ atFirst) ⌝ }
+    pub fn new(m: Limits) -> State
+        requires { ⌜ Suited m ⌝ }
+        ensures { λ r. ⌜ ((ds : List ℕ) → standOf r ds ≡ atFirst m) ⌝ }
         ensures { λ r. ⌜ Sound r × (r .have ≡ 0) ⌝ }
     {
         State {
-            load: Load::new(),
+            load: Load::new(m),
             rays: 0,
             have: 0,
         }

@@ -8,7 +8,7 @@ ghost use Rattle.job.specs.Stand.{standOf};
 ghost use Rattle.job.specs.Line.{lineStep};
 ghost use Rattle.job.specs.Job.{jobFrom};
 ghost use Rattle.job.specs.Sound.{Sound, Buffers, Ready, Kept, cameTo, after, read, room};
-ghost use Rattle.job.specs.InAll.{lists, Pumping};
+ghost use Rattle.job.specs.InAll.{held, Pumping};
 use crate::rays::take_ray;
 use crate::state::Moved;
 use crate::state::State;
@@ -64,7 +64,7 @@ pub fn pump(
 ) -> Pumped
     requires { ⌜ Sound st × Begun (st .have) (now line) × Ready st at (length (now out)) × Buffers (length (now line)) (length (now densities)) × (from ≤ length (now piece)) ⌝ }
     ensures { λ r. ⌜ (from < length (now (piece .entry)) → from < r .next) ⌝ }
-    ensures { λ r. ⌜ Pumping st at from (now (piece .entry)) (lists (now (line .entry)) (now (densities .entry)) (now (out .entry))) r (lists (now (line .exit)) (now (densities .exit)) (now (out .exit))) ⌝ }
+    ensures { λ r. ⌜ Pumping st at from (now (piece .entry)) (held (now (line .entry)) (now (densities .entry)) (now (out .entry))) r (held (now (line .exit)) (now (densities .exit)) (now (out .exit))) ⌝ }
 {
     let end = piece.len();
     let part = cut_line(line, st.have, piece, from);

@@ -9,14 +9,14 @@ use Rattle.job.specs.declared.state.State.{State}
 use Rattle.job.specs.declared.step.Pumped.{Pumped}
 use Rattle.load.specs.Cut.{Begun}
 use Rattle.job.specs.Sound.{Sound, read}
-use Rattle.job.specs.InAll.{Lists, onward, Pumping}
+use Rattle.job.specs.InAll.{Held, onward, Pumping}
 use Rattle.job.proofs.Lengths.{AsLong, as-long, still}
 use Rattle.trace.specs.declared.Drained.{Drained}
 use Rattle.trace.specs.declared.Drained.the-variants.{On, Over}
 use Rattle.trace.specs.Behind.{Behind, drained, standing}
 
 -- the bytes `gone` were handed out for writing, and the piece goes on at `next`
-pub record Draining (st : State) (piece : List ℕ) (k₀ k : Lists) (here : State) (next : ℕ) : Type 0 where
+pub record Draining (st : State) (piece : List ℕ) (k₀ k : Held) (here : State) (next : ℕ) : Type 0 where
   pub kept : AsLong k₀ k
   pub sound : Sound here
   pub begun : Begun (here .have) (k .line)
@@ -25,12 +25,12 @@ pub record Draining (st : State) (piece : List ℕ) (k₀ k : Lists) (here : Sta
   pub gone : List ℕ
   pub same : (later : List ℕ) → onward st (k₀ .line) (k₀ .densities) (piece ++ later) ≡ gone ++ onward here (k .line) (k .densities) (drop next piece ++ later)
 
-module _ {st : State} {piece : List ℕ} {k₀ : Lists} where
+module _ {st : State} {piece : List ℕ} {k₀ : Held} where
   pub drain-begins : Sound st → Begun (st .have) (k₀ .line) → Draining st piece k₀ k₀ st 0
   drain-begins s b = record { kept = as-long; sound = s; begun = b; lines = omega arith; within = omega arith; gone = []; same = λ later. refl }
 
-  module _ {k : Lists} {here : State} {next : ℕ} (d : Draining st piece k₀ k here next) where
-    pub drain-on : {p : Pumped} {k′ : Lists} → p .moved .going ≡ true → AsLong k k′ → Pumping here 0 next piece k p k′ → Draining st piece k₀ k′ (p .moved .state) (p .next)
+  module _ {k : Held} {here : State} {next : ℕ} (d : Draining st piece k₀ k here next) where
+    pub drain-on : {p : Pumped} {k′ : Held} → p .moved .going ≡ true → AsLong k k′ → Pumping here 0 next piece k p k′ → Draining st piece k₀ k′ (p .moved .state) (p .next)
     drain-on {p} {k′} e l h = record {
       kept = still (d .kept) l;
       sound = h .sound;
@@ -52,7 +52,7 @@ pub as-standing : {r : Drained} {st : State} (line : List ℕ) → r ≡ On st �
 as-standing line e h = subst (λ (r : Drained). standing r line) e h
 
 -- the program's loop: the lists keep their lengths, and the job stands somewhere
-pub record Serving (input₀ : List ℕ) (k₀ : Lists) (input : List ℕ) (k : Lists) (st : State) : Type 0 where
+pub record Serving (input₀ : List ℕ) (k₀ : Held) (input : List ℕ) (k : Held) (st : State) : Type 0 where
   pub input-kept : length input ≡ length input₀
   pub kept : AsLong k₀ k
   pub sound : Sound st

@@ -11,6 +11,7 @@ ghost use lib.ListN.{length};
 ghost use Rattle.load.specs.Cut.{Begun};
 ghost use Rattle.job.specs.Sound.{Sound, Buffers, read, room};
 ghost use Rattle.trace.specs.Behind.{drained, standing};
+use axis::Axis;
 use job::feed::feed;
 use job::state::Moved;
 use job::state::State;
@@ -111,7 +112,7 @@ fn serve(input: &mut [u8], line: &mut [u8], densities: &mut [u16], out: &mut [u8
     requires { ⌜ Buffers (length (now line)) (length (now densities)) ⌝ }
     requires { ⌜ (length (now input) ≤ 65536) × (room ≤ length (now out)) ⌝ }
 {
-    let mut st = State::new();
+    let mut st = State::new(Axis::TENTHS);
     let mut reads: u64 = 18446744073709551615;
     while 0 < reads {
         reads -= 1;

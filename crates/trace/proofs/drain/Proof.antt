@@ -4,7 +4,7 @@ use mathlib.Core.Path.{_∙_}
 use native.Mathlib.Omega.{arith}
 use borrow.Author.Tests.{not-false}
 use lib.ListN.{length}
-use Rattle.job.specs.InAll.{lists}
+use Rattle.job.specs.InAll.{held}
 use Rattle.job.proofs.Lengths.{AsLong, buffers}
 use Rattle.trace.proofs.Draining.{Draining, drain-begins, drain-on, drain-ends}
 use Rattle.trace.proofs.drain.Statement.{statement}
@@ -12,7 +12,7 @@ use Rattle.trace.proofs.drain.Tie as tie
 
 abbrev Inv-loop : tie.InvT-loop
 Inv-loop line₀ piece densities₀ out₀ here₀ next₀ line densities out here next =
-    Draining here₀ piece (lists line₀ densities₀ out₀) (lists line densities out) here next
+    Draining here₀ piece (held line₀ densities₀ out₀) (held line densities out) here next
 
 abbrev μ-loop : tie.MeasureT-loop
 μ-loop line₀ piece densities₀ out₀ here₀ next₀ line densities out here next = length piece - next
@@ -22,7 +22,7 @@ module _ (c : tie.After-feed Inv-loop μ-loop) where
   abbrev loop : tie.At-loop Inv-loop μ-loop
   loop = c .before .before .before .before .before
 
-  kept : AsLong (lists (loop .loop .line) (loop .loop .densities) (loop .loop .out)) (lists (c .feed .last .1 .0) (c .feed .last .1 .1 .1 .1 .0) (c .feed .last .1 .1 .1 .1 .1 .0))
+  kept : AsLong (held (loop .loop .line) (loop .loop .densities) (loop .loop .out)) (held (c .feed .last .1 .0) (c .feed .last .1 .1 .1 .1 .0) (c .feed .last .1 .1 .1 .1 .1 .0))
   kept = let l = c .feed .kept in record { line = l .1 .0; densities = l .1 .1 .1 .1 .0; out = l .1 .1 .1 .1 .1 .0 }
 
 loop-holds : tie.Need-loop-holds Inv-loop μ-loop

@@ -2,7 +2,7 @@
 use mathlib.Core.Path.{refl, _∙_}
 use native.Mathlib.Omega.{arith}
 use borrow.Author.Needs.{needs}
-use Rattle.job.specs.InAll.{lists}
+use Rattle.job.specs.InAll.{held}
 use Rattle.job.proofs.Lengths.{as-long, still, buffers}
 use Rattle.job.proofs.Running.{new-begun}
 use Rattle.trace.proofs.Draining.{Serving, as-standing}
@@ -10,7 +10,7 @@ use Rattle.trace.proofs.serve.Statement.{statement}
 use Rattle.trace.proofs.serve.Tie as tie
 
 abbrev Inv-loop : tie.InvT-loop
-Inv-loop input₀ line₀ densities₀ out₀ st₀ reads₀ t9 input line densities out st reads = Serving input₀ (lists line₀ densities₀ out₀) input (lists line densities out) st
+Inv-loop input₀ line₀ densities₀ out₀ st₀ reads₀ t9 input line densities out st reads = Serving input₀ (held line₀ densities₀ out₀) input (held line densities out) st
 
 abbrev μ-loop : tie.MeasureT-loop
 μ-loop input₀ line₀ densities₀ out₀ st₀ reads₀ t9 input line densities out st reads = reads
@@ -19,7 +19,7 @@ abbrev loop : tie.After-turn Inv-loop μ-loop → tie.At-loop Inv-loop μ-loop
 loop c = c .before .before .before .before .before .before
 
 new-requires : tie.Need-new-requires Inv-loop μ-loop
-new-requires c κs = tt
+new-requires c κs = search needs
 
 loop-holds : tie.Need-loop-holds Inv-loop μ-loop
 loop-holds c =

@@ -5,14 +5,14 @@ use mathlib.Core.Path.{_≡_, sym, ap, _∙_}
 use native.Mathlib.Omega.{arith}
 use lib.ListN.{length}
 use Rattle.job.specs.Sound.{room}
-use Rattle.job.specs.InAll.{lists, another}
+use Rattle.job.specs.InAll.{held, another}
 use Rattle.job.proofs.Lengths.{buffers}
 use Rattle.job.proofs.Feeding.{Feeding, goes-on, feed-begins, room-now, feed-on, feed-moves}
 use Rattle.job.proofs.feed.feed.Statement.{statement}
 use Rattle.job.proofs.feed.feed.Tie as tie
 
 abbrev Inv-loop : tie.InvT-loop
-Inv-loop line₀ piece from densities₀ out₀ p₀ line densities out p = Feeding (p₀ .moved .state) from piece (lists line₀ densities₀ out₀) p (lists line densities out)
+Inv-loop line₀ piece from densities₀ out₀ p₀ line densities out p = Feeding (p₀ .moved .state) from piece (held line₀ densities₀ out₀) p (held line densities out)
 
 abbrev μ-loop : tie.MeasureT-loop
 μ-loop line₀ piece from densities₀ out₀ p₀ line densities out p = length piece - p .next

@@ -26,7 +26,7 @@ module _ (c : tie.After-ray-in) where
       → rayStep (standOf (s .args .st) (s .args .densities .now)) (rayIn (split 9 (s .args .line .now))) ≡ rayStep (standOf (s .args .st) (s .args .densities .now)) (ofRay a)
   step {a} e = ap (rayStep (standOf (s .args .st) (s .args .densities .now))) (ray-told (rayIn (split 9 (s .args .line .now))) a (c .ray-in .ensures) e)
 
-  all-there : Taken (s .args .st .load .grid) (s .args .st .load .filled)
+  all-there : Taken (s .args .st .load .limits) (s .args .st .load .grid) (s .args .st .load .filled)
   all-there = taken (s .pre .0) (s .pre .2)
 
   filled : length (take (s .args .st .load .filled) (s .args .densities .now)) ≡ s .args .st .load .filled
@@ -55,16 +55,16 @@ returns c =
     (no .ensures .0 .2, stopped (printed k) _ (no .ensures .0 .1) (no .ensures .1) (step k (e .enum-told .given .1)))
 
 slice-aggregate-put-ray : tie.Need-slice-aggregate-put-ray
-slice-aggregate-put-ray c = sym (filled (c .before .before .before .before .before .before))
+slice-aggregate-put-ray c = sym (filled (c .before .before .before .before .before .before .before))
 
 put-ray-requires : tie.Need-put-ray-requires
 put-ray-requires c κs =
-    let k = c .before .before .before .before .before .before .before in
+    let k = c .before .before .before .before .before .before .before .before in
     let fits = all-there k in
-    (record { accepted = fits .accepted; few = fits .few; whole = filled k ∙ fits .whole }, s k .pre .1 .room)
+    (record { suited = fits .suited; accepted = fits .accepted; few = fits .few; whole = filled k ∙ fits .whole }, s k .pre .1 .room)
 
-add-t18 : tie.Need-add-t18
-add-t18 c = search needs
+add-next : tie.Need-add-next
+add-next c = search needs
 
 same-length-2 : tie.Need-same-length-2
 same-length-2 c = search needs
@@ -72,7 +72,7 @@ same-length-2 c = search needs
 returns-2 : tie.Need-returns-2
 returns-2 c =
     let put = c .before .before .before .put-ray in
-    let r = c .before .before .before .before .before .before .before .before .before in
+    let r = c .before .before .before .before .before .before .before .before .before .before in
     let k = r .before .before in
     (record { sound = sound-ray (s k .pre .0) (s k .pre .2); have = refl; lines = omega arith; room = put .ensures .0 }, went (printed k) (put .ensures .1) (step k (r .read .given .1)))
 
@@ -88,6 +88,6 @@ take-ray-spec =
     returns
     slice-aggregate-put-ray
     put-ray-requires
-    add-t18
+    add-next
     same-length-2
     returns-2)

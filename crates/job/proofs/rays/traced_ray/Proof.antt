@@ -17,7 +17,7 @@ returns : tie.Need-returns
 returns c =
     let t = c .before .before .before .before .trace in
     let p = c .before .before .before .before .before .before .before .before .before .before .pre in
-    let so = traced-so (record { answer = t .ensures .0; voxels-now = t .ensures .1 .0; parts-now = t .ensures .1 .1 }) (p .0) (p .1) (p .2) in
+    let so = traced-so (t .ensures) (p .0) (p .1) (p .2) in
     ((so .answer, so .few), (so .voxels-are, so .parts-are))
 
 pub traced-ray-spec : {M : Type 1} → statement M

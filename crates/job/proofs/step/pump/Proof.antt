@@ -3,7 +3,7 @@ use mathlib.Core.Path.{_≡_, sym}
 use native.Mathlib.Omega.{arith}
 use Rattle.load.specs.declared.cut.Cut.{Cut}
 use Rattle.load.proofs.Cutting.{begun-length}
-use Rattle.job.specs.InAll.{Lists, lists}
+use Rattle.job.specs.InAll.{Held, held}
 use Rattle.job.proofs.Turns.{Turn, as-cut, sound-with, ready-with, answered, refused, used-up}
 use borrow.Author.Needs.{needs}
 use Rattle.job.proofs.step.pump.Statement.{statement}
@@ -13,8 +13,8 @@ module _ (c : tie.After-cut-line) where
   abbrev s : tie.Start
   s = c .before .before .before .before .before .before
 
-  abbrev k : Lists
-  k = lists (s .args .line .now) (s .args .densities .now) (s .args .out .now)
+  abbrev k : Held
+  k = held (s .args .line .now) (s .args .densities .now) (s .args .out .now)
 
   turn : {cut : Cut} → c .cut-line .result ≡ cut → Turn (s .args .st) (s .args .at) (s .args .from) (s .args .piece .now) k cut (c .cut-line .last .0)
   turn e = as-cut e (record { sound = s .pre .0; ready = s .pre .2; within = s .pre .4; parted = c .cut-line .ensures })

@@ -3,18 +3,20 @@ use Prim.Native.Nat.{ℕ, _≤_}
 use mathlib.Core.Path.{_≡_, sym, _∙_}
 use native.Mathlib.Omega.{arith}
 use lib.ListN.{length, take}
-use Rattle.job.specs.InAll.{Lists, lists}
+use Rattle.job.specs.Stand.{standOf}
+use Rattle.job.specs.Job.{jobFrom}
+use Rattle.job.specs.InAll.{Held, held}
 use Rattle.job.proofs.Lengths.{AsLong, buffers}
 use Rattle.job.proofs.Running.{Running, left, run-begins, run-ends, run-less, part-length, run-short, run-on}
 use Rattle.job.proofs.whole.run.Statement.{statement}
 use Rattle.job.proofs.whole.run.Tie as tie
 
 abbrev Inv-loop : tie.InvT-loop
-Inv-loop input line₀ densities₀ answer₀ out₀ st₀ next₀ to₀ going₀ line densities answer out st next to going =
-    Running input (lists line₀ densities₀ answer₀) out₀ (lists line densities answer) out st next to going
+Inv-loop input line₀ densities₀ answer₀ out₀ here₀ next₀ to₀ going₀ line densities answer out here next to going =
+    Running (jobFrom (standOf here₀ densities₀) input) input (held line₀ densities₀ answer₀) out₀ (held line densities answer) out here next to going
 
 abbrev μ-loop : tie.MeasureT-loop
-μ-loop input line₀ densities₀ answer₀ out₀ st₀ next₀ to₀ going₀ line densities answer out st next to going = left going input next
+μ-loop input line₀ densities₀ answer₀ out₀ here₀ next₀ to₀ going₀ line densities answer out here next to going = left going input next
 
 -- behind a turn
 module _ (c : tie.After-turn Inv-loop μ-loop) where
@@ -24,29 +26,26 @@ module _ (c : tie.After-turn Inv-loop μ-loop) where
   abbrev n : ℕ
   n = c .turn .result .moved .at
 
-  abbrev k : Lists
-  k = lists (c .turn .last .1 .0) (c .turn .last .1 .1 .1 .1 .0) (c .turn .last .1 .1 .1 .1 .1 .0)
+  abbrev k : Held
+  k = held (c .turn .last .1 .0) (c .turn .last .1 .1 .1 .1 .0) (c .turn .last .1 .1 .1 .1 .1 .0)
 
-  kept : AsLong (lists (loop .loop .line) (loop .loop .densities) (loop .loop .answer)) k
+  kept : AsLong (held (loop .loop .line) (loop .loop .densities) (loop .loop .answer)) k
   kept = let l = c .turn .kept in record { line = l .1 .0; densities = l .1 .1 .1 .1 .0; out = l .1 .1 .1 .1 .1 .0 }
 
   part : length (take n (k .out)) ≡ n
   part = part-length (loop .loop .inv) (c .before .before .before .before .loop-test .taken) (c .turn .ensures) (kept .out)
 
-new-requires : tie.Need-new-requires Inv-loop μ-loop
-new-requires c κs = tt
-
 loop-holds : tie.Need-loop-holds Inv-loop μ-loop
 loop-holds c =
-    let new = c .new .ensures in
-    let a = c .before .before .before .before .before .before .args in
-    run-begins (a .input .now) (lists (a .line .now) (a .densities .now) (a .answer .now)) (a .out .now) (new .0 (a .densities .now)) (new .1 .0) (new .1 .1)
+    let s = c .before .before .before .before .before in
+    let a = s .args in
+    run-begins (a .input .now) (held (a .line .now) (a .densities .now) (a .answer .now)) (a .out .now) (s .pre .0 .0) (s .pre .0 .1) (s .pre .0 .2)
 
 turn-requires : tie.Need-turn-requires Inv-loop μ-loop
 turn-requires c κs =
     let l = c .before .before .before .before in
     let r = l .loop .inv in
-    let p = l .before .before .before .before .before .before .before .pre in
+    let p = l .before .before .before .before .before .before .pre .1 in
     ((r .sound, r .begun, buffers (r .kept) (p .0)), (omega (arith, r .kept .out, p .1), r .within, r .counted))
 
 sub-if1 : tie.Need-sub-if1 Inv-loop μ-loop
@@ -117,7 +116,6 @@ run-spec =
     (tie.spec
     Inv-loop
     μ-loop
-    new-requires
     loop-holds
     turn-requires
     sub-if1
