@@ -18,16 +18,10 @@ abbrev μ-loop : tie.MeasureT-loop
 abbrev loop : tie.After-turn Inv-loop μ-loop → tie.At-loop Inv-loop μ-loop
 loop c = c .before .before .before .before .before .before
 
-new-requires : tie.Need-new-requires Inv-loop μ-loop
-new-requires c κs = search needs
-
 loop-holds : tie.Need-loop-holds Inv-loop μ-loop
 loop-holds c =
     let new = c .new .ensures .1 in
     record { input-kept = refl; kept = as-long; sound = new .0; begun = new-begun (c .before .before .before .before .before .args .line .now) (new .1) }
-
-sub-reads : tie.Need-sub-reads Inv-loop μ-loop
-sub-reads c = omega arith
 
 turn-requires : tie.Need-turn-requires Inv-loop μ-loop
 turn-requires c κs =
@@ -35,12 +29,6 @@ turn-requires c κs =
     let i = l .loop .inv in
     let p = l .before .before .before .before .before .before .pre in
     ((i .sound, i .begun, buffers (i .kept) (p .0)), (omega (arith, i .input-kept, p .1 .0), omega (arith, i .kept .out, p .1 .1)))
-
-enum-known-drained : tie.Need-enum-known-drained Inv-loop μ-loop
-enum-known-drained c = search needs
-
-enum-told : tie.Need-enum-told Inv-loop μ-loop
-enum-told c = search needs
 
 same-length : tie.Need-same-length Inv-loop μ-loop
 same-length c = let t = c .before .before .before .before .before .before .before .before .before .before in t .turn .kept .1 .0 ∙ loop t .loop .inv .input-kept
@@ -100,12 +88,12 @@ serve-spec =
     (tie.spec
     Inv-loop
     μ-loop
-    new-requires
+    (λ c κs. search needs)
     loop-holds
-    sub-reads
+    (λ c. omega arith)
     turn-requires
-    enum-known-drained
-    enum-told
+    (λ c. search needs)
+    (λ c. search needs)
     same-length
     same-length-2
     same-length-3

@@ -5,9 +5,6 @@ use borrow.Author.Tests.{lt-ltb, le-ltb}
 use Rattle.job.proofs.feed.another.Statement.{statement}
 use Rattle.job.proofs.feed.another.Tie as tie
 
-sub-result : tie.Need-sub-result
-sub-result c = search needs
-
 returns : tie.Need-returns
 returns c =
     let a = c .before .before .before .before .before .args in
@@ -22,4 +19,9 @@ returns-3 : tie.Need-returns-3
 returns-3 c = rw (c .if1 .left) refl
 
 pub another-spec : {M : Type 1} → statement M
-another-spec = tie.close (tie.spec sub-result returns returns-2 returns-3)
+another-spec = tie.close
+    (tie.spec
+    (λ c. search needs)
+    returns
+    returns-2
+    returns-3)

@@ -38,16 +38,16 @@ pump-requires c κs =
     let go = goes t in (
       f .taken .sound,
       f .taken .begun,
-      record { room = go .2; number = omega (arith, f .taken .lines, s .pre .1 .2, go .1) },
+      record { room = omega (arith, go .2); number = omega (arith, f .taken .lines, s .pre .1 .2, go .1) },
       buffers (f .kept) (s .pre .0 .2),
-      f .taken .within,
+      omega (arith, f .taken .within, s .pre .1 .1),
     )
 
 loop-less : tie.Need-loop-less Inv-loop μ-loop
 loop-less c =
     let q = c .before .before .before .before .before .before in
     let go = goes (q .before .before .before .before .before) in
-    omega (arith, q .pump .ensures .0 (go .1), q .pump .ensures .1 .within)
+    omega (arith, q .pump .ensures .0 (omega (arith, go .1)), q .pump .ensures .1 .within)
 
 loop-again : tie.Need-loop-again Inv-loop μ-loop
 loop-again c =
@@ -55,7 +55,7 @@ loop-again c =
     let t = q .before .before .before .before .before in
     let go = goes t in
     let l = q .pump .kept in
-    feed-on (t .before .before .loop .inv) (go .0) (q .pump .ensures .0 (go .1))
+    feed-on (t .before .before .loop .inv) (go .0) (q .pump .ensures .0 (omega (arith, go .1)))
     (record { line = l .1 .0; densities = l .1 .1 .1 .1 .0; out = l .1 .1 .1 .1 .1 .0 }) (q .pump .ensures .1)
 
 same-length : tie.Need-same-length Inv-loop μ-loop

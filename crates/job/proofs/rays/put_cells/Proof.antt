@@ -16,26 +16,8 @@ abbrev μ-loop : tie.MeasureT-loop
 loop-holds : tie.Need-loop-holds Inv-loop μ-loop
 loop-holds c = cells-begin
 
-mul-put-cell : tie.Need-mul-put-cell Inv-loop μ-loop
-mul-put-cell c = omega arith
-
-shared-slice-read-put-cell : tie.Need-shared-slice-read-put-cell Inv-loop μ-loop
-shared-slice-read-put-cell c = omega arith
-
-mul-put-cell-2 : tie.Need-mul-put-cell-2 Inv-loop μ-loop
-mul-put-cell-2 c = omega arith
-
-shared-slice-read-put-cell-2 : tie.Need-shared-slice-read-put-cell-2 Inv-loop μ-loop
-shared-slice-read-put-cell-2 c = omega arith
-
 put-cell-requires : tie.Need-put-cell-requires Inv-loop μ-loop
 put-cell-requires c κs = (omega arith, omega arith, omega arith)
-
-add-e : tie.Need-add-e Inv-loop μ-loop
-add-e c = omega arith
-
-loop-less : tie.Need-loop-less Inv-loop μ-loop
-loop-less c = omega arith
 
 loop-again : tie.Need-loop-again Inv-loop μ-loop
 loop-again c =
@@ -55,13 +37,13 @@ put-cells-spec =
     Inv-loop
     μ-loop
     loop-holds
-    mul-put-cell
-    shared-slice-read-put-cell
-    mul-put-cell-2
-    shared-slice-read-put-cell-2
+    (λ c. omega arith)
+    (λ c. omega arith)
+    (λ c. omega arith)
+    (λ c. omega arith)
     put-cell-requires
-    add-e
-    loop-less
+    (λ c. omega arith)
+    (λ c. omega arith)
     loop-again
     same-length
     returns)

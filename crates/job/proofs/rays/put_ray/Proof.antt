@@ -27,35 +27,8 @@ module _ (c : tie.After-traced-ray) where
   first-parts : length (take (c .traced-ray .result .entries) parts) ≡ c .traced-ray .result .entries
   first-parts = length-take-le (c .traced-ray .result .entries) parts (omega (arith, c .traced-ray .ensures .0 .1, c .traced-ray .kept .1 .1 .1 .1 .1 .0))
 
-slice-aggregate-traced-ray : tie.Need-slice-aggregate-traced-ray
-slice-aggregate-traced-ray c = search needs
-
-slice-aggregate-traced-ray-2 : tie.Need-slice-aggregate-traced-ray-2
-slice-aggregate-traced-ray-2 c = search needs
-
-traced-ray-requires : tie.Need-traced-ray-requires
-traced-ray-requires c κs = search needs
-
-cast-code : tie.Need-cast-code
-cast-code c = search needs
-
-slice-aggregate-put-line : tie.Need-slice-aggregate-put-line
-slice-aggregate-put-line c = search needs
-
-slice-aggregate-put-line-2 : tie.Need-slice-aggregate-put-line-2
-slice-aggregate-put-line-2 c = search needs
-
-put-line-requires : tie.Need-put-line-requires
-put-line-requires c κs = search needs
-
-array-share-prefix-voxels : tie.Need-array-share-prefix-voxels
-array-share-prefix-voxels c = search needs
-
 slice-aggregate-put-cells : tie.Need-slice-aggregate-put-cells
 slice-aggregate-put-cells c = sym (first-voxels (c .before .before .before .before .before .before .before .before .before .before))
-
-array-share-prefix-parts : tie.Need-array-share-prefix-parts
-array-share-prefix-parts c = search needs
 
 slice-aggregate-put-cells-2 : tie.Need-slice-aggregate-put-cells-2
 slice-aggregate-put-cells-2 c = sym (first-parts (c .before .before .before .before .before .before .before .before .before .before .before))
@@ -67,9 +40,6 @@ put-cells-requires c κs =
     let ok = s t .pre .0 in
     let n = sides (s t .args .m) (s t .args .g) (omega (arith, ok .suited .small .n-size)) (ok .accepted) in
     (n .x .0, n .y .0, first-voxels t ∙ sym (first-parts t), omega (arith, put .ensures .0, put .kept .0, first-voxels t, t .traced-ray .ensures .0 .1))
-
-same-length : tie.Need-same-length
-same-length c = search needs
 
 returns : tie.Need-returns
 returns c =
@@ -86,17 +56,17 @@ pub put-ray-spec : {M : Type 1} → statement M
 put-ray-spec =
     tie.close
     (tie.spec
-    slice-aggregate-traced-ray
-    slice-aggregate-traced-ray-2
-    traced-ray-requires
-    cast-code
-    slice-aggregate-put-line
-    slice-aggregate-put-line-2
-    put-line-requires
-    array-share-prefix-voxels
+    (λ c. search needs)
+    (λ c. search needs)
+    (λ c κs. search needs)
+    (λ c. search needs)
+    (λ c. search needs)
+    (λ c. search needs)
+    (λ c κs. search needs)
+    (λ c. search needs)
     slice-aggregate-put-cells
-    array-share-prefix-parts
+    (λ c. search needs)
     slice-aggregate-put-cells-2
     put-cells-requires
-    same-length
+    (λ c. search needs)
     returns)

@@ -15,30 +15,6 @@ use Rattle.job.proofs.rays.ray_in.Tie as tie
 abbrev ends : Option (List ℤ) → RayLine
 ends o = readRay (Option·map rayOf o)
 
-slice-aggregate-integers : tie.Need-slice-aggregate-integers
-slice-aggregate-integers c = search needs
-
-integers-requires : tie.Need-integers-requires
-integers-requires c κs = search needs
-
-array-copy-out-t8 : tie.Need-array-copy-out-t8
-array-copy-out-t8 c = search needs
-
-array-copy-out-t11 : tie.Need-array-copy-out-t11
-array-copy-out-t11 c = search needs
-
-array-copy-out-t14 : tie.Need-array-copy-out-t14
-array-copy-out-t14 c = search needs
-
-array-copy-out-t18 : tie.Need-array-copy-out-t18
-array-copy-out-t18 c = search needs
-
-array-copy-out-t21 : tie.Need-array-copy-out-t21
-array-copy-out-t21 c = search needs
-
-array-copy-out-t24 : tie.Need-array-copy-out-t24
-array-copy-out-t24 c = search needs
-
 returns : tie.Need-returns
 returns c =
     let k = c .before .before .before .before .before .before .before .before in
@@ -61,13 +37,13 @@ pub ray-in-spec : {M : Type 1} → statement M
 ray-in-spec =
     tie.close
     (tie.spec
-    slice-aggregate-integers
-    integers-requires
-    array-copy-out-t8
-    array-copy-out-t11
-    array-copy-out-t14
-    array-copy-out-t18
-    array-copy-out-t21
-    array-copy-out-t24
+    (λ c. search needs)
+    (λ c κs. search needs)
+    (λ c. search needs)
+    (λ c. search needs)
+    (λ c. search needs)
+    (λ c. search needs)
+    (λ c. search needs)
+    (λ c. search needs)
     returns
     returns-2)

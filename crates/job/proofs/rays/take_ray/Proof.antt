@@ -32,21 +32,6 @@ module _ (c : tie.After-ray-in) where
   filled : length (take (s .args .st .load .filled) (s .args .densities .now)) ≡ s .args .st .load .filled
   filled = length-take-le (s .args .st .load .filled) (s .args .densities .now) (omega (arith, all-there .few, all-there .whole, s .pre .3))
 
-ray-in-requires : tie.Need-ray-in-requires
-ray-in-requires c κs = search needs
-
-enum-known-read : tie.Need-enum-known-read
-enum-known-read c = search needs
-
-enum-told : tie.Need-enum-told
-enum-told c = search needs
-
-refuse-requires : tie.Need-refuse-requires
-refuse-requires c κs = search needs
-
-same-length : tie.Need-same-length
-same-length c = search needs
-
 returns : tie.Need-returns
 returns c =
     let no = c .before .before .refuse in
@@ -63,12 +48,6 @@ put-ray-requires c κs =
     let fits = all-there k in
     (record { suited = fits .suited; accepted = fits .accepted; few = fits .few; whole = filled k ∙ fits .whole }, s k .pre .1 .room)
 
-add-next : tie.Need-add-next
-add-next c = search needs
-
-same-length-2 : tie.Need-same-length-2
-same-length-2 c = search needs
-
 returns-2 : tie.Need-returns-2
 returns-2 c =
     let put = c .before .before .before .put-ray in
@@ -80,14 +59,14 @@ pub take-ray-spec : {M : Type 1} → statement M
 take-ray-spec =
     tie.close
     (tie.spec
-    ray-in-requires
-    enum-known-read
-    enum-told
-    refuse-requires
-    same-length
+    (λ c κs. search needs)
+    (λ c. search needs)
+    (λ c. search needs)
+    (λ c κs. search needs)
+    (λ c. search needs)
     returns
     slice-aggregate-put-ray
     put-ray-requires
-    add-next
-    same-length-2
+    (λ c. search needs)
+    (λ c. search needs)
     returns-2)

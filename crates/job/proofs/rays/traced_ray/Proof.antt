@@ -4,15 +4,6 @@ use borrow.Author.Needs.{needs}
 use Rattle.job.proofs.rays.traced_ray.Statement.{statement}
 use Rattle.job.proofs.rays.traced_ray.Tie as tie
 
-trace-requires : tie.Need-trace-requires
-trace-requires c κs = search needs
-
-same-length : tie.Need-same-length
-same-length c = search needs
-
-same-length-2 : tie.Need-same-length-2
-same-length-2 c = search needs
-
 returns : tie.Need-returns
 returns c =
     let t = c .before .before .before .before .trace in
@@ -21,4 +12,9 @@ returns c =
     ((so .answer, so .few), (so .voxels-are, so .parts-are))
 
 pub traced-ray-spec : {M : Type 1} → statement M
-traced-ray-spec = tie.close (tie.spec trace-requires same-length same-length-2 returns)
+traced-ray-spec = tie.close
+    (tie.spec
+    (λ c κs. search needs)
+    (λ c. search needs)
+    (λ c. search needs)
+    returns)

@@ -19,12 +19,6 @@ module _ (c : tie.After-cut-line) where
   turn : {cut : Cut} → c .cut-line .result ≡ cut → Turn (s .args .st) (s .args .at) (s .args .from) (s .args .piece .now) k cut (c .cut-line .last .0)
   turn e = as-cut e (record { sound = s .pre .0; ready = s .pre .2; within = s .pre .4; parted = c .cut-line .ensures })
 
-cut-line-requires : tie.Need-cut-line-requires
-cut-line-requires c κs = search needs
-
-enum-known-part : tie.Need-enum-known-part
-enum-known-part c = search needs
-
 slice-reshare-prefix-take-line : tie.Need-slice-reshare-prefix-take-line
 slice-reshare-prefix-take-line c =
     let k = c .before .before .before .before .before in
@@ -42,26 +36,11 @@ take-line-requires c κs =
     let t = turn k (p .part .given .1) in
     (sound-with t 0, ready-with t 0, s k .pre .3 .densities, omega (arith, t .parted .0 .short, begun-length (t .parted .0)))
 
-enum-known-part-2 : tie.Need-enum-known-part-2
-enum-known-part-2 c = search needs
-
-enum-told : tie.Need-enum-told
-enum-told c = search needs
-
 refuse-requires : tie.Need-refuse-requires
 refuse-requires c κs =
     let p = c .before in
     let t = turn (p .before .before .before .before) (p .enum-told .given .1) in
     (sound-with t 0, ready-with t 0)
-
-same-length : tie.Need-same-length
-same-length c = search needs
-
-same-length-2 : tie.Need-same-length-2
-same-length-2 c = search needs
-
-same-length-3 : tie.Need-same-length-3
-same-length-3 c = search needs
 
 returns : tie.Need-returns
 returns c =
@@ -70,19 +49,10 @@ returns c =
     let t = turn (p .before .before .before .before) (p .part .given .1) in
     ((λ h. t .parted .2), answered t (m .ensures .0) (m .ensures .1))
 
-same-length-4 : tie.Need-same-length-4
-same-length-4 c = search needs
-
 returns-2 : tie.Need-returns-2
 returns-2 c =
     let p = c .before in
     ((λ h. h), used-up (turn (p .before .before .before .before) (p .part2 .given .1)))
-
-same-length-5 : tie.Need-same-length-5
-same-length-5 c = search needs
-
-same-length-6 : tie.Need-same-length-6
-same-length-6 c = search needs
 
 returns-3 : tie.Need-returns-3
 returns-3 c =
@@ -94,20 +64,20 @@ pub pump-spec : {M : Type 1} → statement M
 pump-spec =
     tie.close
     (tie.spec
-    cut-line-requires
-    enum-known-part
+    (λ c κs. search needs)
+    (λ c. search needs)
     slice-reshare-prefix-take-line
     slice-aggregate-take-line
     take-line-requires
-    enum-known-part-2
-    enum-told
+    (λ c. search needs)
+    (λ c. search needs)
     refuse-requires
-    same-length
-    same-length-2
-    same-length-3
+    (λ c. search needs)
+    (λ c. search needs)
+    (λ c. search needs)
     returns
-    same-length-4
+    (λ c. search needs)
     returns-2
-    same-length-5
-    same-length-6
+    (λ c. search needs)
+    (λ c. search needs)
     returns-3)

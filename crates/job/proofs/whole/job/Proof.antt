@@ -9,25 +9,10 @@ use borrow.Author.Needs.{needs}
 use Rattle.job.proofs.whole.job.Statement.{statement}
 use Rattle.job.proofs.whole.job.Tie as tie
 
-new-requires : tie.Need-new-requires
-new-requires c κs = search needs
-
-slice-aggregate-run : tie.Need-slice-aggregate-run
-slice-aggregate-run c = search needs
-
-slice-aggregate-run-2 : tie.Need-slice-aggregate-run-2
-slice-aggregate-run-2 c = search needs
-
-slice-aggregate-run-3 : tie.Need-slice-aggregate-run-3
-slice-aggregate-run-3 c = search needs
-
 run-requires : tie.Need-run-requires
 run-requires c κs =
     let new = c .before .before .before .before .new .ensures in
     ((new .1 .0, ap (λ (s : Stand). s .load .lines + s .rays) (new .0 []), new .1 .1), search needs)
-
-same-length : tie.Need-same-length
-same-length c = search needs
 
 returns : tie.Need-returns
 returns c =
@@ -40,10 +25,10 @@ pub job-spec : {M : Type 1} → statement M
 job-spec =
     tie.close
     (tie.spec
-    new-requires
-    slice-aggregate-run
-    slice-aggregate-run-2
-    slice-aggregate-run-3
+    (λ c κs. search needs)
+    (λ c. search needs)
+    (λ c. search needs)
+    (λ c. search needs)
     run-requires
-    same-length
+    (λ c. search needs)
     returns)

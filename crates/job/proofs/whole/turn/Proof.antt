@@ -5,29 +5,11 @@ use borrow.Author.Needs.{needs}
 use Rattle.job.proofs.whole.turn.Statement.{statement}
 use Rattle.job.proofs.whole.turn.Tie as tie
 
-feed-requires : tie.Need-feed-requires
-feed-requires c κs = search needs
-
-same-length : tie.Need-same-length
-same-length c = search needs
-
-same-length-2 : tie.Need-same-length-2
-same-length-2 c = search needs
-
-same-length-3 : tie.Need-same-length-3
-same-length-3 c = search needs
-
 returns : tie.Need-returns
 returns c =
     let f = c .before .before .before .before .before .before in
     let t = f .before .before .before .before in
     fed (t .before .before .before .before .before .pre .1 .2) (f .feed .ensures .1 .1) (f .feed .ensures .0 (t .if1 .taken))
-
-finish-requires : tie.Need-finish-requires
-finish-requires c κs = search needs
-
-same-length-4 : tie.Need-same-length-4
-same-length-4 c = search needs
 
 returns-2 : tie.Need-returns-2
 returns-2 c =
@@ -40,11 +22,11 @@ pub turn-spec : {M : Type 1} → statement M
 turn-spec =
     tie.close
     (tie.spec
-    feed-requires
-    same-length
-    same-length-2
-    same-length-3
+    (λ c κs. search needs)
+    (λ c. search needs)
+    (λ c. search needs)
+    (λ c. search needs)
     returns
-    finish-requires
-    same-length-4
+    (λ c κs. search needs)
+    (λ c. search needs)
     returns-2)

@@ -15,12 +15,6 @@ abbrev μ-loop : tie.MeasureT-loop
 loop-holds : tie.Need-loop-holds Inv-loop μ-loop
 loop-holds c = cut-begins (omega arith) (c .pre .0)
 
-shared-slice-read-b : tie.Need-shared-slice-read-b Inv-loop μ-loop
-shared-slice-read-b c = omega arith
-
-add-t12 : tie.Need-add-t12 Inv-loop μ-loop
-add-t12 c = omega arith
-
 same-length : tie.Need-same-length Inv-loop μ-loop
 same-length c = c .before .before .before .loop .inv .kept
 
@@ -32,18 +26,6 @@ same-length-2 c = c .before .before .before .before .loop .inv .kept
 
 returns-2 : tie.Need-returns-2 Inv-loop μ-loop
 returns-2 c = cut-long (c .before .before .before .before .loop .inv) (omega arith) (c .before .if1 .left) (omega arith)
-
-slice-write-line : tie.Need-slice-write-line Inv-loop μ-loop
-slice-write-line c = omega arith
-
-add-n : tie.Need-add-n Inv-loop μ-loop
-add-n c = omega arith
-
-add-i : tie.Need-add-i Inv-loop μ-loop
-add-i c = omega arith
-
-loop-less : tie.Need-loop-less Inv-loop μ-loop
-loop-less c = omega arith
 
 loop-again : tie.Need-loop-again Inv-loop μ-loop
 loop-again c = cut-on (c .before .before .before .before .loop .inv) (omega arith) (c .before .if1 .left) (omega arith) (omega arith)
@@ -61,16 +43,16 @@ cut-line-spec =
     Inv-loop
     μ-loop
     loop-holds
-    shared-slice-read-b
-    add-t12
+    (λ c. omega arith)
+    (λ c. omega arith)
     same-length
     returns
     same-length-2
     returns-2
-    slice-write-line
-    add-n
-    add-i
-    loop-less
+    (λ c. omega arith)
+    (λ c. omega arith)
+    (λ c. omega arith)
+    (λ c. omega arith)
     loop-again
     same-length-3
     returns-3)

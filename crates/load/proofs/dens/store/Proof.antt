@@ -17,31 +17,10 @@ abbrev μ-loop : tie.MeasureT-loop
 loop-holds : tie.Need-loop-holds Inv-loop μ-loop
 loop-holds c = (omega arith, refl, copy-begins (c .args .densities .now) (c .args .row .now) (c .args .at))
 
-mul-densities : tie.Need-mul-densities Inv-loop μ-loop
-mul-densities c = omega arith
-
-shared-slice-read-densities : tie.Need-shared-slice-read-densities Inv-loop μ-loop
-shared-slice-read-densities c = omega arith
-
 cast-densities : tie.Need-cast-densities Inv-loop μ-loop
 cast-densities c =
     let l = c .before .before in
     omega (arith, l .before .pre .2 (l .loop .i) (omega arith))
-
-add-densities : tie.Need-add-densities Inv-loop μ-loop
-add-densities c = omega arith
-
-mul-densities-2 : tie.Need-mul-densities-2 Inv-loop μ-loop
-mul-densities-2 c = omega arith
-
-slice-write-densities : tie.Need-slice-write-densities Inv-loop μ-loop
-slice-write-densities c = omega arith
-
-add-i : tie.Need-add-i Inv-loop μ-loop
-add-i c = omega arith
-
-loop-less : tie.Need-loop-less Inv-loop μ-loop
-loop-less c = omega arith
 
 loop-again : tie.Need-loop-again Inv-loop μ-loop
 loop-again c =
@@ -66,14 +45,14 @@ store-spec =
     Inv-loop
     μ-loop
     loop-holds
-    mul-densities
-    shared-slice-read-densities
+    (λ c. omega arith)
+    (λ c. omega arith)
     cast-densities
-    add-densities
-    mul-densities-2
-    slice-write-densities
-    add-i
-    loop-less
+    (λ c. omega arith)
+    (λ c. omega arith)
+    (λ c. omega arith)
+    (λ c. omega arith)
+    (λ c. omega arith)
     loop-again
     same-length
     returns)

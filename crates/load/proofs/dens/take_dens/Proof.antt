@@ -43,17 +43,8 @@ module _ (c : tie.After-naturals) where
   read-so : c .naturals .result ≡ true → densIn (st .grid .x .n) fields ≡ some (take (st .grid .x .n) row)
   read-so = some-read (st .grid .x .n) row (c .naturals .ensures)
 
-cast-nx : tie.Need-cast-nx
-cast-nx c = search needs
-
-slice-aggregate-naturals : tie.Need-slice-aggregate-naturals
-slice-aggregate-naturals c = search needs
-
 naturals-requires : tie.Need-naturals-requires
 naturals-requires c κs = let s = c .before .before .before .before .before in its-sides (s .pre .0) (s .pre .1) .x .1
-
-slice-aggregate-store : tie.Need-slice-aggregate-store
-slice-aggregate-store c = search needs
 
 store-requires : tie.Need-store-requires
 store-requires c κs =
@@ -69,9 +60,6 @@ sub-next c = omega (arith, s (c .before .before .before .before .before .before 
 
 add-next-2 : tie.Need-add-next-2
 add-next-2 c = omega (arith, fits (c .before .before .before .before .before .before .before .before .before))
-
-same-length : tie.Need-same-length
-same-length c = search needs
 
 returns : tie.Need-returns
 returns c =
@@ -91,14 +79,14 @@ pub take-dens-spec : {M : Type 1} → statement M
 take-dens-spec =
     tie.close
     (tie.spec
-    cast-nx
-    slice-aggregate-naturals
+    (λ c. search needs)
+    (λ c. search needs)
     naturals-requires
-    slice-aggregate-store
+    (λ c. search needs)
     store-requires
     add-next
     sub-next
     add-next-2
-    same-length
+    (λ c. search needs)
     returns
     returns-2)

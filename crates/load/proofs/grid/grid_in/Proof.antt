@@ -7,45 +7,6 @@ use borrow.Author.Needs.{needs}
 use Rattle.load.proofs.grid.grid_in.Statement.{statement}
 use Rattle.load.proofs.grid.grid_in.Tie as tie
 
-slice-aggregate-naturals : tie.Need-slice-aggregate-naturals
-slice-aggregate-naturals c = search needs
-
-naturals-requires : tie.Need-naturals-requires
-naturals-requires c κs = search needs
-
-slice-aggregate-integers : tie.Need-slice-aggregate-integers
-slice-aggregate-integers c = search needs
-
-integers-requires : tie.Need-integers-requires
-integers-requires c κs = search needs
-
-array-read-t12 : tie.Need-array-read-t12
-array-read-t12 c = search needs
-
-array-read-t15 : tie.Need-array-read-t15
-array-read-t15 c = search needs
-
-array-copy-out-t18 : tie.Need-array-copy-out-t18
-array-copy-out-t18 c = search needs
-
-array-read-t22 : tie.Need-array-read-t22
-array-read-t22 c = search needs
-
-array-read-t25 : tie.Need-array-read-t25
-array-read-t25 c = search needs
-
-array-copy-out-t28 : tie.Need-array-copy-out-t28
-array-copy-out-t28 c = search needs
-
-array-read-t32 : tie.Need-array-read-t32
-array-read-t32 c = search needs
-
-array-read-t35 : tie.Need-array-read-t35
-array-read-t35 c = search needs
-
-array-copy-out-t38 : tie.Need-array-copy-out-t38
-array-copy-out-t38 c = search needs
-
 returns : tie.Need-returns
 returns c =
     let sizes = c .before .before .before .before .before .before .before .before .before .naturals in
@@ -79,19 +40,19 @@ pub grid-in-spec : {M : Type 1} → statement M
 grid-in-spec =
     tie.close
     (tie.spec
-    slice-aggregate-naturals
-    naturals-requires
-    slice-aggregate-integers
-    integers-requires
-    array-read-t12
-    array-read-t15
-    array-copy-out-t18
-    array-read-t22
-    array-read-t25
-    array-copy-out-t28
-    array-read-t32
-    array-read-t35
-    array-copy-out-t38
+    (λ c. search needs)
+    (λ c κs. search needs)
+    (λ c. search needs)
+    (λ c κs. search needs)
+    (λ c. search needs)
+    (λ c. search needs)
+    (λ c. search needs)
+    (λ c. search needs)
+    (λ c. search needs)
+    (λ c. search needs)
+    (λ c. search needs)
+    (λ c. search needs)
+    (λ c. search needs)
     returns
     returns-2
     returns-3)

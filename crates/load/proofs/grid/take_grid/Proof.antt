@@ -41,20 +41,8 @@ module _ (c : tie.Else1) where
   few : g .y .n * g .z .n ≤ 262144
   few = layers-fit (sides (start .args .st .limits) g (start .pre .0 .narrow) (code-zero (start .args .st .limits) g fine .0))
 
-grid-in-requires : tie.Need-grid-in-requires
-grid-in-requires c κs = search needs
-
-enum-known-read : tie.Need-enum-known-read
-enum-known-read c = search needs
-
-enum-told : tie.Need-enum-told
-enum-told c = search needs
-
 returns : tie.Need-returns
 returns c = (tt, λ ds. sym (said (c .before .before) (c .enum-told .given .1)))
-
-taken-code-requires : tie.Need-taken-code-requires
-taken-code-requires c κs = search needs
 
 returns-2 : tie.Need-returns-2
 returns-2 c =
@@ -86,11 +74,11 @@ pub take-grid-spec : {M : Type 1} → statement M
 take-grid-spec =
     tie.close
     (tie.spec
-    grid-in-requires
-    enum-known-read
-    enum-told
+    (λ c κs. search needs)
+    (λ c. search needs)
+    (λ c. search needs)
     returns
-    taken-code-requires
+    (λ c κs. search needs)
     returns-2
     mul-left
     cast-left

@@ -21,9 +21,6 @@ module _ (c : tie.Else1) where
   its-sides : Sides (s .args .g .x .n) (s .args .g .y .n) (s .args .g .z .n)
   its-sides = sides (s .args .m) (s .args .g) (s .pre) fine
 
-grid-code-requires : tie.Need-grid-code-requires
-grid-code-requires c κs = search needs
-
 returns : tie.Need-returns
 returns c =
     let k = c .before in
@@ -50,4 +47,11 @@ returns-3 c =
 
 pub taken-code-spec : {M : Type 1} → statement M
 taken-code-spec =
-    tie.close (tie.spec grid-code-requires returns mul-if2 mul-if2-2 returns-2 returns-3)
+    tie.close
+    (tie.spec
+    (λ c κs. search needs)
+    returns
+    mul-if2
+    mul-if2-2
+    returns-2
+    returns-3)

@@ -14,23 +14,11 @@ module _ (c : tie.After-kind-of) where
   headed : Headed (s .args .word .now) (s .args .fields) (s .args .due) (s .args .nx) (split 9 (s .args .line .now)) (c .kind-of .result)
   headed = record { is = c .kind-of .ensures ∙ ap kindOf (c .before .first-word .ensures) }
 
-first-word-requires : tie.Need-first-word-requires
-first-word-requires c κs = search needs
-
-kind-of-requires : tie.Need-kind-of-requires
-kind-of-requires c κs = search needs
-
 returns : tie.Need-returns
 returns c = unknown (headed (c .before)) (c .if1 .taken)
 
 returns-2 : tie.Need-returns-2
 returns-2 c = not-due (headed (c .before .before)) (c .before .if1 .left) (c .if2 .taken)
-
-count-requires : tie.Need-count-requires
-count-requires c κs = search needs
-
-fields-of-requires : tie.Need-fields-of-requires
-fields-of-requires c κs = search needs
 
 returns-3 : tie.Need-returns-3
 returns-3 c =
@@ -48,11 +36,11 @@ pub head-code-spec : {M : Type 1} → statement M
 head-code-spec =
     tie.close
     (tie.spec
-    first-word-requires
-    kind-of-requires
+    (λ c κs. search needs)
+    (λ c κs. search needs)
     returns
     returns-2
-    count-requires
-    fields-of-requires
+    (λ c κs. search needs)
+    (λ c κs. search needs)
     returns-3
     returns-4)

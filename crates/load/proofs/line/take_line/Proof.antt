@@ -29,12 +29,6 @@ own c =
     let due = k .before .before .due in
     else-own (s k .args .st .lines) (s k .args .st .left) (λ e. c .before .if2 .left (due .ensures ∙ e)) (λ e. c .if3 .left (due .ensures ∙ e))
 
-due-requires : tie.Need-due-requires
-due-requires c κs = search needs
-
-head-code-requires : tie.Need-head-code-requires
-head-code-requires c κs = search needs
-
 returns : tie.Need-returns
 returns c = (tt, line-refused (checked (c .before)) (c .if1 .taken))
 
@@ -56,9 +50,6 @@ take-dens-requires c κs =
     let known = dens-due (s k .args .st .lines) (s k .args .st .left) (due-is k (t .if3 .taken)) in
     (s k .pre .0, known .0, known .1, s k .pre .1)
 
-same-length : tie.Need-same-length
-same-length c = search needs
-
 returns-3 : tie.Need-returns-3
 returns-3 c =
     let m = c .before .before .take-dens in
@@ -73,12 +64,12 @@ pub take-line-spec : {M : Type 1} → statement M
 take-line-spec =
     tie.close
     (tie.spec
-    due-requires
-    head-code-requires
+    (λ c κs. search needs)
+    (λ c κs. search needs)
     returns
     take-grid-requires
     returns-2
     take-dens-requires
-    same-length
+    (λ c. search needs)
     returns-3
     returns-4)
