@@ -26,7 +26,8 @@ module _ {v : Volume} {voxels parts out₀ : List ℕ} {at : ℕ} where
   cells-begin = record { within = omega arith; room = omega arith; kept = refl; same = refl }
 
   module _ {out : List ℕ} {e to : ℕ} (p : Printing v voxels parts out₀ at out e to) where
-    pub cells-on : {out′ : List ℕ} {to′ : ℕ} → e < length voxels → e < length parts → to′ ≤ to + 89 → length out′ ≡ length out → take to′ out′ ≡ take to out ++ cell v (getD voxels e 0) (getD parts e 0) → Printing v voxels parts out₀ at out′ (e + 1) to′
+    pub cells-on : {out′ : List ℕ} {to′ : ℕ} → e < length voxels → e < length parts → to′ ≤ to + 89 → length out′ ≡ length out
+        → take to′ out′ ≡ take to out ++ cell v (getD voxels e 0) (getD parts e 0) → Printing v voxels parts out₀ at out′ (e + 1) to′
     unfolding cells
     cells-on h g r k w = record {
       within = omega arith;

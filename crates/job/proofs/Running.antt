@@ -132,7 +132,7 @@ module _ {text input out₀ out : List ℕ} {k₀ k : Held} {st : State} {next t
       pub run-short : (out′ : List ℕ) → length out < to + p .moved .at → Wrote text (length out₀) out′ Short
       run-short out′ h =
           wrote-short text out′ (length out₀)
-          (omega (arith, ap length behind, length-append (take to out ++ take (p .moved .at) (k′ .out)) rest, length-append (take to out) (take (p .moved .at) (k′ .out)), length-take-le to out (r .room), part-length, r .out-kept))
+          (omega (arith, simp length-append at (ap length behind), length-take-le to out (r .room), part-length, r .out-kept))
 
     pub run-on : {out′ : List ℕ} {to′ : ℕ} → AsLong k k′ → length out′ ≡ length out → take to′ out′ ≡ take to out ++ take (p .moved .at) (k′ .out) → to′ ≤ length out
         → Running text input k₀ out₀ k′ out′ (p .moved .state) (p .next) to′ (p .moved .going)

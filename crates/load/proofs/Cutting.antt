@@ -21,7 +21,8 @@ unfolding until
 until-behind sep [] q e = omega arith
 until-behind sep (x ∷ xs) q e = go (eqb x sep) (until-behind sep xs q) e
   where
-    go : (b : Bool) → (until sep xs ≡ length xs → until sep (xs ++ q) ≡ length xs + until sep q) → cond b zero (suc (until sep xs)) ≡ suc (length xs) → cond b zero (suc (until sep (xs ++ q))) ≡ suc (length xs) + until sep q
+    go : (b : Bool) → (until sep xs ≡ length xs → until sep (xs ++ q) ≡ length xs + until sep q) → cond b zero (suc (until sep xs)) ≡ suc (length xs)
+        → cond b zero (suc (until sep (xs ++ q))) ≡ suc (length xs) + until sep q
     go true rest f = absurd (omega arith)
     go false rest f = omega (arith, rest (omega arith))
 

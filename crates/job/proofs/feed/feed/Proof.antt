@@ -1,9 +1,10 @@
 -- `job::feed::feed` meets its contract. The loop keeps `Feeding`. Assumes nothing.
-use Prim.Native.Nat.{_+_, _-_, _≤_, _<_}
+use Prim.Native.Nat.{ℕ, _+_, _-_, _≤_, _<_}
 use mathlib.Core.Bool.{true, false}
 use mathlib.Core.Path.{_≡_, sym, ap, _∙_}
 use native.Mathlib.Omega.{arith}
 use lib.ListN.{length}
+use Rattle.job.specs.declared.step.Pumped.{Pumped}
 use Rattle.job.specs.Sound.{room}
 use Rattle.job.specs.InAll.{held, another}
 use Rattle.job.proofs.Lengths.{buffers}
@@ -17,10 +18,15 @@ Inv-loop line₀ piece from densities₀ out₀ p₀ line densities out p = Feed
 abbrev μ-loop : tie.MeasureT-loop
 μ-loop line₀ piece from densities₀ out₀ p₀ line densities out p = length piece - p .next
 
-goes : (c : tie.Then1 Inv-loop μ-loop) → (c .before .before .loop .p .moved .going ≡ true) × (c .before .before .loop .p .next < length (c .before .before .before .before .before .before .before .args .piece .now)) × (c .before .before .loop .p .moved .at + room ≤ length (c .before .before .loop .out))
-goes c =
-    let o = c .before .before .loop in
-    goes-on (o .p) (length (c .before .before .before .before .before .before .before .args .piece .now)) (length (o .out)) (room-now (o .inv)) (sym (c .before .another .ensures) ∙ c .if1 .taken)
+module _ (c : tie.Then1 Inv-loop μ-loop) where
+  abbrev p : Pumped
+  p = c .before .before .loop .p
+
+  abbrev end : ℕ
+  end = length (c .before .before .before .before .before .before .before .args .piece .now)
+
+  goes : (p .moved .going ≡ true) × (p .next < end) × (p .moved .at + room ≤ length (c .before .before .loop .out))
+  goes = goes-on p end (length (c .before .before .loop .out)) (room-now (c .before .before .loop .inv)) (sym (c .before .another .ensures) ∙ c .if1 .taken)
 
 loop-holds : tie.Need-loop-holds Inv-loop μ-loop
 loop-holds c =

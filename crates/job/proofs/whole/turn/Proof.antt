@@ -16,7 +16,8 @@ returns-2 c =
     let f = c .before .before .finish in
     let s = c .before .before .before .before .before .before .before .before .before in
     let p = s .pre in
-    ended (p .1 .2) (f .last .1 .0) (p .0 .0) (p .0 .1) (p .1 .1) (c .before .before .before .before .if1 .left) (omega (arith, f .ensures .0, p .1 .0)) (f .ensures .1 (s .args .line .now) (s .args .densities .now) (p .0 .1))
+    ended (p .1 .2) (f .last .1 .0) (p .0 .0) (p .0 .1) (p .1 .1) (c .before .before .before .before .if1 .left) (omega (arith, f .ensures .0, p .1 .0))
+    (f .ensures .1 (s .args .line .now) (s .args .densities .now) (p .0 .1))
 
 pub turn-spec : {M : Type 1} → statement M
 turn-spec =
