@@ -12,11 +12,13 @@ use borrow.Author.Tests.{lt-ltb}
 use Rattle.text.specs.Split.{split, until, after}
 use Rattle.text.proofs.Split.{split-first, end-within}
 use Rattle.job.specs.Stand.{Stand}
-use Rattle.job.specs.Line.{Step, goes, stops, badLine, lineStep}
+use Rattle.load.specs.Line.{lineRead}
+use Rattle.load.proofs.Cutting.{until-behind}
+use Rattle.job.specs.Line.{Step, goes, stops, refusal, lineStep}
 use Rattle.job.specs.Job.{atEnd, andThen, linesFrom, jobFrom}
-use Rattle.job.specs.Sound.{stepIs, more}
+use Rattle.job.specs.Sound.{stepIs}
 use Rattle.job.specs.Sound as sound
-use Rattle.job.proofs.Cutting.{until-behind}
+use Rattle.job.specs.InAll.{more}
 
 -- bytes with no LF, up to an LF and up to the end
 line-first : (l rest : List ℕ) → until 10 l ≡ length l → split 10 (l ++ (10 ∷ rest)) ≡ l ∷ split 10 rest
@@ -41,11 +43,14 @@ unfolding jobFrom linesFrom
 job-end s l e = ap (linesFrom s) (line-last l e)
 
 -- more than 4096 bytes ahead of any LF
-job-long : (s : Stand) (bytes : List ℕ) → 4096 < until 10 bytes → jobFrom s bytes ≡ badLine (s .lines) 20
-unfolding jobFrom linesFrom lineStep
-job-long s bytes h = ap (linesFrom s) (split-first 10 bytes) ∙ go (take (until 10 bytes) bytes) (after 10 (drop (until 10 bytes) bytes)) (omega (arith, length-take-le (until 10 bytes) bytes (omega (arith, end-within 10 bytes 0 (omega arith)))))
+job-long : (s : Stand) (bytes : List ℕ) → 4096 < until 10 bytes → jobFrom s bytes ≡ refusal s 20
+unfolding jobFrom linesFrom lineStep lineRead
+job-long s bytes h =
+    let first : List ℕ = take (until 10 bytes) bytes in
+    let long : length first ≡ until 10 bytes = length-take-le (until 10 bytes) bytes (omega (arith, end-within 10 bytes 0 (omega arith))) in
+    ap (linesFrom s) (split-first 10 bytes) ∙ go first (after 10 (drop (until 10 bytes) bytes)) (omega arith)
   where
-    go : (l : List ℕ) (ls : List (List ℕ)) → 4096 < length l → linesFrom s (l ∷ ls) ≡ badLine (s .lines) 20
+    go : (l : List ℕ) (ls : List (List ℕ)) → 4096 < length l → linesFrom s (l ∷ ls) ≡ refusal s 20
     go [] [] g = absurd (omega arith)
     go (b ∷ bs) [] g = refl
     go l (m ∷ ms) g = rw (lt-ltb 4096 (length l) g) refl
@@ -69,21 +74,25 @@ step-then false o s rest = sym (append-nil o)
 
 -- `begun` stands of a line, `here` is at hand, and `later` comes later
 module _ (begun here later : List ℕ) where
-  pub line-turn : (going : Bool) (o : List ℕ) (s s′ : Stand) (printed l rest : List ℕ) → until 10 l ≡ length l → begun ++ here ≡ l ++ (10 ∷ rest) → stepIs going o s′ ≡ sound.after printed (lineStep s l) → printed ++ jobFrom s (begun ++ (here ++ later)) ≡ o ++ more going (jobFrom s′ (rest ++ later))
-  line-turn going o s s′ printed l rest plain e f =
-      let cut : begun ++ (here ++ later) ≡ l ++ (10 ∷ (rest ++ later)) = sym (append-assoc begun here later) ∙ ap (λ (b : List ℕ). b ++ later) e ∙ append-assoc l (10 ∷ rest) later in
-      let then : Stand → List ℕ = λ s″. jobFrom s″ (rest ++ later) in
-      ap (λ (b : List ℕ). printed ++ jobFrom s b) cut
+  on : {l : List ℕ} → begun ++ here ≡ l → begun ++ (here ++ later) ≡ l ++ later
+  on e = sym (append-assoc begun here later) ∙ ap (λ (b : List ℕ). b ++ later) e
+
+  pub line-turn : (s : Stand) (going : Bool) (o : List ℕ) (s′ : Stand) (printed l rest : List ℕ) → until 10 l ≡ length l → begun ++ here ≡ l ++ (10 ∷ rest)
+      → stepIs going o s′ ≡ sound.after printed (lineStep s l) → printed ++ jobFrom s (begun ++ (here ++ later)) ≡ o ++ more going (jobFrom s′ (rest ++ later))
+  line-turn s going o s′ printed l rest plain e f =
+      let then : Stand → List ℕ = λ t. jobFrom t (rest ++ later) in
+      ap (λ (b : List ℕ). printed ++ jobFrom s b) (on e ∙ append-assoc l (10 ∷ rest) later)
       ∙ ap (λ (b : List ℕ). printed ++ b) (job-line s l (rest ++ later) plain)
       ∙ and-then printed (lineStep s l) then
       ∙ ap (λ (t : Step). andThen t then) (sym f)
       ∙ step-then going o s′ then
 
-  pub more-turn : (s : Stand) (l : List ℕ) → begun ++ here ≡ l → jobFrom s (begun ++ (here ++ later)) ≡ jobFrom s (l ++ later)
-  more-turn s l e = ap (jobFrom s) (sym (append-assoc begun here later) ∙ ap (λ (b : List ℕ). b ++ later) e)
+  pub more-turn : (s : Stand) {l : List ℕ} → begun ++ here ≡ l → jobFrom s (begun ++ (here ++ later)) ≡ jobFrom s (l ++ later)
+  more-turn s e = ap (jobFrom s) (on e)
 
-  pub long-turn : {going : Bool} {o : List ℕ} (s : Stand) (printed rest : List ℕ) → 4096 < until 10 (begun ++ here) → going ≡ false → o ≡ printed ++ badLine (s .lines) 20 → printed ++ jobFrom s (begun ++ (here ++ later)) ≡ o ++ more going rest
-  long-turn {o = o} s printed rest h g e =
-      ap (λ (b : List ℕ). printed ++ jobFrom s b) (sym (append-assoc begun here later))
+  pub long-turn : (s : Stand) {going : Bool} {o : List ℕ} (printed rest : List ℕ) → 4096 < until 10 (begun ++ here) → going ≡ false → o ≡ printed ++ refusal s 20
+      → printed ++ jobFrom s (begun ++ (here ++ later)) ≡ o ++ more going rest
+  long-turn s {o = o} printed rest h g e =
+      ap (λ (b : List ℕ). printed ++ jobFrom s b) (on refl)
       ∙ ap (λ (b : List ℕ). printed ++ b) (job-long s ((begun ++ here) ++ later) (omega (arith, until-more 10 (begun ++ here) later)))
       ∙ sym e ∙ rw g (sym (append-nil o))

@@ -3,16 +3,16 @@ use Prim.Native.Nat.{ℕ, _+_, _*_, _≤_, _<_}
 use mathlib.Core.List.{List, _++_, map, append-assoc, append-nil}
 use mathlib.Core.Path.{_≡_, refl, sym, _∙_}
 use lib.ListN.{length, getD, take, drop, drop-of-length-le}
-use lib.Seq.{drop-cons, length-take-le}
+use lib.Seq.{drop-cons}
 use native.Mathlib.Numerals.{add-one}
 use native.Mathlib.Omega.{arith}
+use Rattle.axis.specs.declared.Limits.{Limits}
 use Rattle.ray.specs.declared.Grid.{Grid}
 use Rattle.ray.specs.declared.Ray.{Ray}
 use Rattle.ray.specs.Length.{Volume, volume, partOf}
 use Rattle.tracing.specs.declared.Trace.{Trace}
 use Rattle.text.specs.Line.{lineOf}
-use Rattle.text.specs.Word.{RAY}
-use Rattle.job.specs.Rays.{traced, passed, figures, cell, cells, rayText}
+use Rattle.job.specs.Rays.{RAY, traced, passed, figures, cell, cells, rayText}
 
 -- the entries from e on are still to be printed behind `to`
 pub record Printing (v : Volume) (voxels parts out₀ : List ℕ) (at : ℕ) (out : List ℕ) (e to : ℕ) : Type 0 where
@@ -21,14 +21,15 @@ pub record Printing (v : Volume) (voxels parts out₀ : List ℕ) (at : ℕ) (ou
   pub kept : length out ≡ length out₀
   pub same : take at out₀ ++ cells v voxels parts ≡ take to out ++ cells v (drop e voxels) (drop e parts)
 
-module _ (v : Volume) (voxels parts out₀ : List ℕ) (at : ℕ) where
+module _ {v : Volume} {voxels parts out₀ : List ℕ} {at : ℕ} where
   pub cells-begin : Printing v voxels parts out₀ at out₀ 0 at
   cells-begin = record { within = omega arith; room = omega arith; kept = refl; same = refl }
 
-  module _ (out : List ℕ) (e to : ℕ) (p : Printing v voxels parts out₀ at out e to) where
-    pub cells-on : (out′ : List ℕ) (to′ : ℕ) → e < length voxels → e < length parts → to′ ≤ to + 89 → length out′ ≡ length out → take to′ out′ ≡ take to out ++ cell v (getD voxels e 0) (getD parts e 0) → Printing v voxels parts out₀ at out′ (e + 1) to′
+  module _ {out : List ℕ} {e to : ℕ} (p : Printing v voxels parts out₀ at out e to) where
+    pub cells-on : {out′ : List ℕ} {to′ : ℕ} → e < length voxels → e < length parts → to′ ≤ to + 89 → length out′ ≡ length out
+        → take to′ out′ ≡ take to out ++ cell v (getD voxels e 0) (getD parts e 0) → Printing v voxels parts out₀ at out′ (e + 1) to′
     unfolding cells
-    cells-on out′ to′ h g r k w = record {
+    cells-on h g r k w = record {
       within = omega arith;
       room = omega (arith, p .room);
       kept = k ∙ p .kept;
@@ -39,11 +40,9 @@ module _ (v : Volume) (voxels parts out₀ : List ℕ) (at : ℕ) where
     unfolding cells
     cells-end h = sym (p .same ∙ rw (drop-of-length-le voxels h) (append-nil (take to out)))
 
--- the first of the lists that a trace filled
-pub first-of : (n : ℕ) (l : List ℕ) → n ≤ 600 → length l ≡ 600 → length (take n l) ≡ n
-first-of n l h e = length-take-le n l (omega arith)
-
 -- a RAY line and its CELL lines
-pub ray-printed : {o₁ o₂ voxels parts : List ℕ} {t : Trace} (before : List ℕ) (g : Grid) (densities : List ℕ) (r : Ray) → t ≡ traced g densities r → voxels ≡ passed g r → parts ≡ map (partOf (volume g) r) (passed g r) → o₁ ≡ before ++ lineOf RAY (figures t) → o₂ ≡ o₁ ++ cells (volume g) voxels parts → o₂ ≡ before ++ rayText g densities r
+pub ray-printed : {o₁ o₂ voxels parts : List ℕ} {t : Trace} (before : List ℕ) (m : Limits) (g : Grid) (densities : List ℕ) (r : Ray) → t ≡ traced m g densities r
+    → voxels ≡ passed m g r → parts ≡ map (partOf (volume g) r) (passed m g r) → o₁ ≡ before ++ lineOf RAY (figures t) → o₂ ≡ o₁ ++ cells (volume g) voxels parts
+    → o₂ ≡ before ++ rayText m g densities r
 unfolding rayText
-ray-printed before g densities r e f h e₁ e₂ = e₂ ∙ rw (e₁, e, f, h) (append-assoc before (lineOf RAY (figures (traced g densities r))) _)
+ray-printed before m g densities r e f h e₁ e₂ = e₂ ∙ rw (e₁, e, f, h) (append-assoc before (lineOf RAY (figures (traced m g densities r))) _)

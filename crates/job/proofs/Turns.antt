@@ -1,76 +1,92 @@
 -- A piece of the input is taken in, up to the end of one line: what holds behind each way that the line was cut. Assumes nothing.
-use Prim.Native.Nat.{ℕ, _+_, _≤_, _<_}
-use mathlib.Core.Bool.{true}
-use mathlib.Core.List.{List, _∷_, _++_}
-use mathlib.Core.Path.{_≡_, refl, ap, sym, _∙_, subst}
+use Prim.Native.Nat.{ℕ, _+_, _≤_}
+use mathlib.Core.Bool.{false}
+use mathlib.Core.List.{List, _++_}
+use mathlib.Core.Path.{_≡_, refl, ap, _∙_, subst}
 use lib.ListN.{length, take, drop, length-append, length-drop, length-take}
 use lib.Seq.{drop-length}
 use native.Mathlib.Omega.{arith}
 use Rattle.text.specs.Split.{until}
+use Rattle.load.specs.declared.cut.Cut.{Cut}
+use Rattle.load.specs.declared.cut.Cut.the-variants.{Line, More, Long}
+use Rattle.load.specs.Line.{badLine}
+use Rattle.load.specs.Cut.{cutInto}
+use Rattle.load.proofs.Cutting.{begun-length, begun-plain}
 use Rattle.job.specs.declared.state.State.{State}
 use Rattle.job.specs.declared.state.Moved.{Moved}
-use Rattle.job.specs.declared.cut.Cut.{Cut}
 use Rattle.job.specs.Stand.{standOf}
 use Rattle.job.specs.Line.{lineStep}
-use Rattle.job.specs.Job.{jobFrom}
-use Rattle.job.specs.Sound.{Sound, Begun, Ready, Kept, Pumping, stepIs, after, more, starting, room}
-use Rattle.job.specs.Read.{cutInto}
-use Rattle.job.proofs.Ending.{begun-length}
-use Rattle.job.proofs.Flow.{line-turn, more-turn}
-
-pub as-cut : {t u : Cut} (before piece : List ℕ) (from : ℕ) (line : List ℕ) → t ≡ u → cutInto t before piece from line → cutInto u before piece from line
-as-cut before piece from line e h = subst (λ (t : Cut). cutInto t before piece from line) e h
+use Rattle.job.specs.Sound.{Sound, Ready, Kept, cameTo, after, read}
+use Rattle.job.specs.InAll.{Held, held, starting, alike, Pumping}
+use Rattle.job.proofs.Flow.{line-turn, more-turn, long-turn}
 
 -- the same state with so many bytes of the next line
 abbrev pub with : State → ℕ → State
-with st have = record { grid = st .grid; lines = st .lines; rays = st .rays; left = st .left; filled = st .filled; have = have }
+with st have = record { load = st .load; rays = st .rays; have = have }
 
-module _ {st′ : State} (st : State) (have : ℕ) (e : st′ ≡ with st have) where
-  pub sound-with : Sound st → Sound st′
-  sound-with s = subst Sound (sym e) (record { accepted = s .accepted; few = s .few; loaded = s .loaded; counted = s .counted; early = s .early })
+-- the piece is at hand from `from` on, and is cut into this
+pub record Turn (st : State) (at from : ℕ) (piece : List ℕ) (k : Held) (cut : Cut) (line : List ℕ) : Type 0 where
+  pub sound : Sound st
+  pub ready : Ready st at (length (k .out))
+  pub within : from ≤ length piece
+  pub parted : cutInto cut (take (st .have) (k .line)) piece from line
 
-  pub ready-with : {at out : ℕ} → Ready st at out → Ready st′ at out
-  ready-with {at} {out} r = subst (λ (s : State). Ready s at out) (sym e) (record { room = r .room; number = r .number })
+module _ {st : State} {at from : ℕ} {piece line : List ℕ} {k : Held} where
+  pub as-cut : {t u : Cut} → t ≡ u → Turn st at from piece k t line → Turn st at from piece k u line
+  as-cut e h = subst (λ (t : Cut). Turn st at from piece k t line) e h
 
--- the line is done with, by an answer or by a refusal
-module _ (st : State) (at from : ℕ) (piece line : List ℕ) (fresh : State) (e : fresh ≡ with st 0) (m : Moved) (kept : Kept fresh at m) where
-  nothing : m .state .have ≡ 0
-  nothing = kept .have ∙ ap (λ (s : State). s .have) e
+  module _ {cut : Cut} (t : Turn st at from piece k cut line) where
+    pub sound-with : (have : ℕ) → Sound (with st have)
+    sound-with have = record { suited = t .sound .suited; load = t .sound .load; early = t .sound .early }
 
-  pub done-with : (out next : ℕ) → m .state .lines + from ≤ st .lines + next → next ≤ length piece → from ≤ next → at + room ≤ out → Pumping st from (length piece) line out (record { moved = m; next = next })
-  unfolding until
-  done-with out next h g back fits = record {
-    sound = kept .sound;
-    begun = record { short = omega (arith, nothing); unended = rw nothing refl };
-    lines = h;
-    counted = omega (arith, nothing);
-    room = omega (arith, kept .room);
-    back = back;
-    within = g;
-  }
+    pub ready-with : (have : ℕ) → Ready (with st have) at (length (k .out))
+    ready-with have = record { room = t .ready .room; number = t .ready .number }
 
-  pub answered : (o line₀ densities densities′ printed : List ℕ) (len next : ℕ) → Begun len line → take (st .have) line₀ ++ drop from piece ≡ take len line ++ (10 ∷ drop next piece) → stepIs (m .going) o (standOf (m .state) densities′) ≡ after printed (lineStep (standOf fresh densities) (take len line)) → (later : List ℕ) → printed ++ jobFrom (standOf st densities) (take (st .have) line₀ ++ (drop from piece ++ later)) ≡ o ++ more (m .going) (jobFrom (standOf (m .state) densities′) (take (m .state .have) line ++ (drop next piece ++ later)))
-  answered o line₀ densities densities′ printed len next b c f later =
-      let step = f ∙ ap (λ (s : State). after printed (lineStep (standOf s densities) (take len line))) e in
-      line-turn (take (st .have) line₀) (drop from piece) later (m .going) o (standOf st densities) (standOf (m .state) densities′) printed (take len line) (drop next piece) (b .unended ∙ sym (begun-length len line b)) c step
-      ∙ rw nothing refl
+    -- the line is done with, by an answer or by a refusal
+    done : {m : Moved} {next : ℕ} {k′ : Held} → Kept (with st 0) at m → read (m .state) + from ≤ read st + next → from ≤ next → next ≤ length piece
+        → alike piece (starting st at from) k (record { moved = m; next = next }) k′ → Pumping st at from piece k (record { moved = m; next = next }) k′
+    unfolding until
+    done kept lines back within same = record {
+      sound = kept .sound;
+      begun = record { short = omega (arith, kept .have); unended = rw (kept .have) refl };
+      lines = lines;
+      counted = omega (arith, kept .have);
+      room = omega (arith, kept .room, t .ready .room);
+      back = back;
+      within = within;
+      same = same;
+    }
 
--- the piece is used up
-module _ (st st′ : State) (at from : ℕ) (piece line₀ line : List ℕ) (len : ℕ) (e : st′ ≡ with st len) (b : Begun len line) (same : take (st .have) line₀ ++ drop from piece ≡ take len line) where
-  pub used-up : (out : ℕ) → Sound st → from ≤ length piece → at ≤ out → Pumping st from (length piece) line out (starting st′ at (length piece))
-  used-up out s h fits =
-      subst (λ (u : State). Pumping st from (length piece) line out (starting u at (length piece))) (sym e)
-      (record {
-        sound = sound-with st len refl s;
-        begun = b;
-        lines = omega arith;
-        counted = omega (arith, begun-length len line b, ap length same, length-append (take (st .have) line₀) (drop from piece), length-take (st .have) line₀, length-drop from piece);
-        room = fits;
-        back = h;
+  pub answered : {len next : ℕ} {m : Moved} {densities out : List ℕ} → Turn st at from piece k (Line len next) line → Kept (with st 0) at m
+      → cameTo m out densities ≡ after (take at (k .out)) (lineStep (standOf st (k .densities)) (take len line))
+      → Pumping st at from piece k (record { moved = m; next = next }) (held line densities out)
+  answered {len} {next} {m} {densities} {out} t kept step =
+      let w = t .parted in
+      done t kept (omega (arith, kept .lines, w .2)) (omega (arith, w .2)) (w .3)
+      (λ later.
+      line-turn (take (st .have) (k .line)) (drop from piece) later (standOf st (k .densities)) (m .going) (take (m .at) out) (standOf (m .state) densities)
+      (take at (k .out)) (take len line) (drop next piece) (begun-plain (w .0)) (w .1) step
+      ∙ rw (kept .have) refl)
+
+  pub refused : {m : Moved} {densities out : List ℕ} → Turn st at from piece k Long line → Kept (with st 0) at m → m .state ≡ with st 0 → m .going ≡ false
+      → take (m .at) out ≡ take at (k .out) ++ badLine (read st) 20 → Pumping st at from piece k (record { moved = m; next = length piece }) (held line densities out)
+  refused t kept is g e =
+      done t kept (omega (arith, t .within, ap read is)) (t .within) (omega arith)
+      (λ later. long-turn (take (st .have) (k .line)) (drop from piece) later (standOf st (k .densities)) (take at (k .out)) _ (t .parted) g e)
+
+  -- the piece is used up
+  pub used-up : {len : ℕ} → Turn st at from piece k (More len) line → Pumping st at from piece k (starting (with st len) at (length piece)) (held line (k .densities) (k .out))
+  used-up {len} t =
+      let begun = begun-length (t .parted .0) in
+      record {
+        sound = sound-with t len;
+        begun = t .parted .0;
+        lines = omega (arith, t .within);
+        counted = omega (arith, t .within, begun, ap length (t .parted .1), length-append (take (st .have) (k .line)) (drop from piece), length-take (st .have) (k .line), length-drop from piece);
+        room = omega (arith, t .ready .room);
+        back = t .within;
         within = omega arith;
-      })
-
-  pub goes-on : (densities printed later : List ℕ) → printed ++ jobFrom (standOf st densities) (take (st .have) line₀ ++ (drop from piece ++ later)) ≡ printed ++ jobFrom (standOf st′ densities) (take (st′ .have) line ++ (drop (length piece) piece ++ later))
-  goes-on densities printed later =
-      ap (λ (l : List ℕ). printed ++ l) (more-turn (take (st .have) line₀) (drop from piece) later (standOf st densities) (take len line) same)
-      ∙ rw (e, drop-length piece) refl
+        same = λ later.
+            ap (λ (l : List ℕ). take at (k .out) ++ l) (more-turn (take (st .have) (k .line)) (drop from piece) later (standOf st (k .densities)) (t .parted .1))
+            ∙ rw (drop-length piece) refl;
+      }

@@ -1,36 +1,18 @@
 -- RULES 10.3: where the job stands between two lines. Definitions only. Assumes nothing.
 use Prim.Native.Nat.{ℕ}
-use mathlib.Core.Bool.{cond}
-use mathlib.Core.List.{List, []}
-use lib.Dec.{eqb}
-use lib.IntN.{pos}
-use lib.ListN.{take}
-use Rattle.axis.specs.declared.Axis.{Axis}
-use Rattle.ray.specs.declared.Grid.{Grid}
+use mathlib.Core.List.{List}
+use Rattle.axis.specs.declared.Limits.{Limits}
+use Rattle.load.specs.Loaded.{Loaded, nothing, loadedOf}
 use Rattle.job.specs.declared.state.State.{State}
 
--- the lines read; the grid, and how many DENS lines are still to come; the densities read; the RAY lines answered
+-- what is loaded, and the RAY lines answered
 pub record Stand : Type 0 where
-  pub lines : ℕ
-  pub grid : Grid
-  pub left : ℕ
-  pub densities : List ℕ
+  pub load : Loaded
   pub rays : ℕ
 
--- nothing is read, and the grid is not known yet
-abbrev noAxis : Axis
-noAxis = record { n = 0; d = 0; b = pos 0 }
-
-abbrev noGrid : Grid
-noGrid = record { x = noAxis; y = noAxis; z = noAxis }
-
-abbrev pub atFirst : Stand
-atFirst = record { lines = 0; grid = noGrid; left = 0; densities = []; rays = 0 }
-
--- which line is due: 0 GRID, 1 DENS while some are left, 2 RAY
-abbrev pub dueAt : (lines left : ℕ) → ℕ
-dueAt lines left = cond (eqb lines 0) 0 (cond (eqb left 0) 2 1)
+abbrev pub atFirst : Limits → Stand
+atFirst m = record { load = nothing m; rays = 0 }
 
 -- what a state says, where the densities read are the first of a list
 abbrev pub standOf : State → List ℕ → Stand
-standOf st densities = record { lines = st .lines; grid = st .grid; left = st .left; densities = take (st .filled) densities; rays = st .rays }
+standOf st densities = record { load = loadedOf (st .load) densities; rays = st .rays }

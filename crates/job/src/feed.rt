@@ -1,10 +1,11 @@
 // The loop over lines: what the program and the whole job in memory both run.
 ghost use mathlib.Core.Path.{_≡_};
 ghost use mathlib.Core.Bool.{false};
-ghost use mathlib.Core.List.{List};
-ghost use Prim.Native.Nat.{ℕ, _+_, _^_, _≤_, _<_};
+ghost use Prim.Native.Nat.{_+_, _^_, _≤_, _<_};
 ghost use lib.ListN.{length};
-ghost use Rattle.job.specs.Sound.{Sound, Begun, Lent, Pumping, starting, inAll, another, room};
+ghost use Rattle.load.specs.Cut.{Begun};
+ghost use Rattle.job.specs.Sound.{Sound, Buffers, read, room};
+ghost use Rattle.job.specs.InAll.{held, Pumping, another};
 use crate::state::Moved;
 use crate::state::State;
 use crate::step::Pumped;
@@ -34,10 +35,11 @@ pub fn feed(
     densities: &mut [u16],
     out: &mut [u8],
 ) -> Pumped
-    requires { ⌜ Sound st × Begun (st .have) (now line) × Lent (length (now line)) (length (now densities)) ⌝ }
-    requires { ⌜ (room ≤ length (now out)) × (from ≤ length (now piece)) × (st .lines + length (now piece) < 2 ^ 64 + from) ⌝ }
-    ensures { λ r. ⌜ Pumping st from (length (now (piece .entry))) (now (line .exit)) (length (now (out .entry))) r × (from < length (now (piece .entry)) → from < r .next) × (another r (length (now (piece .entry))) (length (now (out .entry))) ≡ false) ⌝ }
-    ensures { λ r. ⌜ ((later : List ℕ) → inAll (starting st 0 from) (now (line .entry)) (now (densities .entry)) (now (out .entry)) (now (piece .entry)) later ≡ inAll r (now (line .exit)) (now (densities .exit)) (now (out .exit)) (now (piece .entry)) later) ⌝ }
+    requires { ⌜ Sound st × Begun (st .have) (now line) × Buffers (length (now line)) (length (now densities)) ⌝ }
+    requires { ⌜ (room ≤ length (now out)) × (from ≤ length (now piece)) × (read st + length (now piece) < 2 ^ 64 + from) ⌝ }
+    ensures { λ r. ⌜ (from < length (now (piece .entry)) → from < r .next) ⌝ }
+    ensures { λ r. ⌜ another r (length (now (piece .entry))) (length (now (out .entry))) ≡ false ⌝ }
+    ensures { λ r. ⌜ Pumping st 0 from (now (piece .entry)) (held (now (line .entry)) (now (densities .entry)) (now (out .entry))) r (held (now (line .exit)) (now (densities .exit)) (now (out .exit))) ⌝ }
 {
     let mut p = Pumped {
         moved: Moved {

@@ -6,20 +6,20 @@ ghost use lib.ListN.{length, take};
 ghost use Rattle.ray.specs.Length.{volume, partOf};
 ghost use Rattle.text.specs.Split.{split};
 ghost use Rattle.job.specs.Stand.{standOf};
-ghost use Rattle.job.specs.Numbers.{rayIn};
 ghost use Rattle.job.specs.Rays.{traced, passed, cell, cells, rayText};
-ghost use Rattle.job.specs.Line.{rayStep};
-ghost use Rattle.job.specs.Sound.{Sound, Ready, Kept, stepIs, after, room, Taken};
+ghost use Rattle.job.specs.Line.{rayIn, rayStep};
+ghost use Rattle.job.specs.Sound.{Taken, Sound, Ready, Kept, due, cameTo, after, room};
 ghost use Rattle.job.specs.Read.{readRay};
 use crate::state::Moved;
 use crate::state::State;
+use axis::Limits;
 use ray::End;
 use ray::Grid;
 use ray::Ray;
 use text::numbers::integers;
 use text::put::put_line;
 use tracing::Trace;
-use tracing::calls::trace;
+use tracing::device::trace;
 
 // The numbers of a RAY line.
 pub enum RayLine {
@@ -49,13 +49,20 @@ fn ray_in(line: &[u8]) -> RayLine
 }
 
 // The trace of a ray through a grid that the job takes: 600 places are never too few.
-fn traced_ray(g: Grid, r: Ray, densities: &[u16], voxels: &mut [u32], parts: &mut [u64]) -> Trace
-    requires { ⌜ Taken g (length (now densities)) × (length (now voxels) ≡ 600) × (length (now parts) ≡ 600) ⌝ }
-    ensures { λ a. ⌜ (a ≡ traced g (now (densities .entry)) r) × (a .entries ≤ 600) ⌝ }
-    ensures { λ a. ⌜ take (a .entries) (now (voxels .exit)) ≡ passed g r ⌝ }
-    ensures { λ a. ⌜ take (a .entries) (now (parts .exit)) ≡ map (partOf (volume g) r) (passed g r) ⌝ }
+fn traced_ray(
+    m: Limits,
+    g: Grid,
+    r: Ray,
+    densities: &[u16],
+    voxels: &mut [u32],
+    parts: &mut [u64],
+) -> Trace
+    requires { ⌜ Taken m g (length (now densities)) × (length (now voxels) ≡ 600) × (length (now parts) ≡ 600) ⌝ }
+    ensures { λ a. ⌜ (a ≡ traced m g (now (densities .entry)) r) × (a .entries ≤ 600) ⌝ }
+    ensures { λ a. ⌜ take (a .entries) (now (voxels .exit)) ≡ passed m g r ⌝ }
+    ensures { λ a. ⌜ take (a .entries) (now (parts .exit)) ≡ map (partOf (volume g) r) (passed m g r) ⌝ }
 {
-    trace(g, r, densities, voxels, parts)
+    trace(m, g, r, densities, voxels, parts)
 }
 
 fn put_cell(g: Grid, voxel: u32, part: u64, out: &mut [u8], at: usize) -> usize
@@ -86,17 +93,18 @@ fn put_cells(g: Grid, voxels: &[u32], parts: &[u64], out: &mut [u8], at: usize) 
     to
 }
 
-fn put_ray(g: Grid, r: Ray, densities: &[u16], out: &mut [u8], at: usize) -> usize
-    requires { ⌜ Taken g (length (now densities)) × (at + room ≤ length (now out)) ⌝ }
+fn put_ray(m: Limits, g: Grid, r: Ray, densities: &[u16], out: &mut [u8], at: usize) -> usize
+    requires { ⌜ Taken m g (length (now densities)) × (at + room ≤ length (now out)) ⌝ }
     ensures { λ to. ⌜ to ≤ at + room ⌝ }
-    ensures { λ to. ⌜ take to (now (out .exit)) ≡ take at (now (out .entry)) ++ rayText g (now (densities .entry)) r ⌝ }
+    ensures { λ to. ⌜ take to (now (out .exit)) ≡ take at (now (out .entry)) ++ rayText m g (now (densities .entry)) r ⌝ }
 {
     let mut voxels: [u32; 600] = [0; 600];
     let mut parts: [u64; 600] = [0; 600];
-    let t = traced_ray(g, r, densities, &mut voxels, &mut parts);
+    let t = traced_ray(m, g, r, densities, &mut voxels, &mut parts);
     let n = t.entries;
+    let code = t.code as u64;
     let figures = [
-        t.code as u64,
+        code,
         n as u64,
         t.crossed,
         t.span,
@@ -109,19 +117,20 @@ fn put_ray(g: Grid, r: Ray, densities: &[u16], out: &mut [u8], at: usize) -> usi
 }
 
 pub fn take_ray(st: State, line: &[u8], densities: &[u16], out: &mut [u8], at: usize) -> Moved
-    requires { ⌜ Sound st × Ready st at (length (now out)) × (0 < st .lines) × (st .left ≡ 0) × (4096 ≤ length (now densities)) ⌝ }
+    requires { ⌜ Sound st × Ready st at (length (now out)) × (due st ≡ 2) × (4096 ≤ length (now densities)) ⌝ }
     ensures { λ r. ⌜ Kept st at r ⌝ }
-    ensures { λ r. ⌜ stepIs (r .going) (take (r .at) (now (out .exit))) (standOf (r .state) (now (densities .entry))) ≡ after (take at (now (out .entry))) (rayStep (standOf st (now (densities .entry))) (rayIn (split 9 (now (line .entry))))) ⌝ }
+    ensures { λ r. ⌜ cameTo r (now (out .exit)) (now (densities .entry)) ≡ after (take at (now (out .entry))) (rayStep (standOf st (now (densities .entry))) (rayIn (split 9 (now (line .entry))))) ⌝ }
 {
     let read = ray_in(line);
     let RayLine::Ends(r) = read else {
         return st.refuse(24, out, at);
     };
-    let filled = st.filled;
-    let g = st.grid;
-    let to = put_ray(g, r, &densities[..filled], out, at);
+    let load = st.load;
+    let m = load.limits;
+    let g = load.grid;
+    let filled = load.filled;
+    let to = put_ray(m, g, r, &densities[..filled], out, at);
     let mut next = st;
-    next.lines = st.lines + 1;
     next.rays = st.rays + 1;
     Moved {
         state: next,

@@ -25,8 +25,8 @@ once e f = e ∙ sym f
 pub count-once : (line : List ℕ) (r r′ : ℕ) → r ≡ length (split 9 line) → r′ ≡ length (split 9 line) → r ≡ r′
 count-once line r r′ = once
 
-pub first-word-once : (line : List ℕ) (r r′ : Word) → r ≡ wordOf (getD (split 9 line) 0 []) → r′ ≡ wordOf (getD (split 9 line) 0 []) → r ≡ r′
-first-word-once line r r′ = once
+pub first-word-once : (line own : List ℕ) (r r′ : Word) → r ≡ wordOf own (getD (split 9 line) 0 []) → r′ ≡ wordOf own (getD (split 9 line) 0 []) → r ≡ r′
+first-word-once line own r r′ = once
 
 pub natural-once : (t : List ℕ) (r r′ : Natural) → r ≡ readNatural (naturalOf t) → r′ ≡ readNatural (naturalOf t) → r ≡ r′
 natural-once t r r′ = once

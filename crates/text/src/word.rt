@@ -6,10 +6,11 @@ ghost use Rattle.text.specs.Split.{split};
 ghost use Rattle.text.specs.Word.{same, wordOf};
 use crate::fields::field;
 
+// The words of the loader, and the word of the program's own kind of line.
 pub enum Word {
     Grid,
     Dens,
-    Ray,
+    Own,
     Other,
 }
 
@@ -29,8 +30,8 @@ fn same_bytes(a: &[u8], b: &[u8]) -> bool
     true
 }
 
-fn word_of(t: &[u8]) -> Word
-    ensures { λ r. ⌜ r ≡ wordOf (now (t .entry)) ⌝ }
+fn word_of(t: &[u8], own: &[u8]) -> Word
+    ensures { λ r. ⌜ r ≡ wordOf (now (own .entry)) (now (t .entry)) ⌝ }
 {
     if same_bytes(t, b"GRID") {
         return Word::Grid;
@@ -38,18 +39,18 @@ fn word_of(t: &[u8]) -> Word
     if same_bytes(t, b"DENS") {
         return Word::Dens;
     }
-    if same_bytes(t, b"RAY") {
-        return Word::Ray;
+    if same_bytes(t, own) {
+        return Word::Own;
     }
     Word::Other
 }
 
 // Which of the three words the first field is, byte for byte.
-pub fn first_word(line: &[u8]) -> Word
-    ensures { λ r. ⌜ r ≡ wordOf (getD (split 9 (now (line .entry))) 0 []) ⌝ }
+pub fn first_word(line: &[u8], own: &[u8]) -> Word
+    ensures { λ r. ⌜ r ≡ wordOf (now (own .entry)) (getD (split 9 (now (line .entry))) 0 []) ⌝ }
 {
     let span = field(line, 0);
     let start = span.start;
     let end = span.end;
-    word_of(&line[start..end])
+    word_of(&line[start..end], own)
 }

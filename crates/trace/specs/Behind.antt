@@ -2,11 +2,10 @@
 use mathlib.Core.List.{List, _++_}
 use mathlib.Core.Path.{_≡_}
 use Prim.Native.Nat.{ℕ}
-use lib.ListN.{take}
 use Rattle.job.specs.declared.state.State.{State}
-use Rattle.job.specs.Stand.{standOf}
-use Rattle.job.specs.Job.{jobFrom}
-use Rattle.job.specs.Sound.{Sound, Begun}
+use Rattle.load.specs.Cut.{Begun}
+use Rattle.job.specs.Sound.{Sound}
+use Rattle.job.specs.InAll.{onward}
 use Rattle.trace.specs.declared.Drained.{Drained}
 use Rattle.trace.specs.declared.Drained.the-variants.{On, Over}
 
@@ -16,7 +15,7 @@ pub record Behind (st : State) (line densities piece : List ℕ) (st′ : State)
   pub sound : Sound st′
   pub begun : Begun (st′ .have) line′
   pub gone : List ℕ
-  pub same : (later : List ℕ) → jobFrom (standOf st densities) (take (st .have) line ++ (piece ++ later)) ≡ gone ++ jobFrom (standOf st′ densities′) (take (st′ .have) line′ ++ later)
+  pub same : (later : List ℕ) → onward st line densities (piece ++ later) ≡ gone ++ onward st′ line′ densities′ later
 
 abbrev pub drained : Drained → (st : State) → (line densities piece line′ densities′ : List ℕ) → Type 0
 drained (On st′) st line densities piece line′ densities′ = Behind st line densities piece st′ line′ densities′

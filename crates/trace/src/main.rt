@@ -8,8 +8,10 @@ ghost use Prim.Native.Nat.{_+_, _^_, _≤_, _<_};
 ghost use mathlib.Core.Bool.{true};
 ghost use mathlib.Core.Path.{_≡_};
 ghost use lib.ListN.{length};
-ghost use Rattle.job.specs.Sound.{Sound, Begun, Lent, room};
+ghost use Rattle.load.specs.Cut.{Begun};
+ghost use Rattle.job.specs.Sound.{Sound, Buffers, read, room};
 ghost use Rattle.trace.specs.Behind.{drained, standing};
+use axis::Axis;
 use job::feed::feed;
 use job::state::Moved;
 use job::state::State;
@@ -18,8 +20,9 @@ use libc::STDERR_FILENO;
 use libc::STDIN_FILENO;
 use libc::STDOUT_FILENO;
 
-// Lines have numbers of 64 bits, and a piece of 65536 bytes has at most as many lines.
-const LINES_MAX: u64 = 18446744073709420544;
+// Lines have numbers of 64 bits, a piece of 65536 bytes has at most as many lines, and few lines stand
+// ahead of the rays.
+const RAYS_MAX: u64 = 18446744073709420544;
 
 // Where the job stands behind a piece of the input; or that it is over.
 pub enum Drained {
@@ -55,8 +58,8 @@ fn sent(m: Moved, out: &[u8]) -> bool
 
 // Answers a piece of the input, and writes the answers.
 fn drain(st: State, line: &mut [u8], piece: &[u8], densities: &mut [u16], out: &mut [u8]) -> Drained
-    requires { ⌜ Sound st × Begun (st .have) (now line) × Lent (length (now line)) (length (now densities)) ⌝ }
-    requires { ⌜ (room ≤ length (now out)) × (st .lines + length (now piece) < 2 ^ 64) ⌝ }
+    requires { ⌜ Sound st × Begun (st .have) (now line) × Buffers (length (now line)) (length (now densities)) ⌝ }
+    requires { ⌜ (room ≤ length (now out)) × (read st + length (now piece) < 2 ^ 64) ⌝ }
     ensures { λ r. ⌜ drained r st (now (line .entry)) (now (densities .entry)) (now (piece .entry)) (now (line .exit)) (now (densities .exit)) ⌝ }
 {
     let mut here = st;
@@ -81,11 +84,11 @@ fn turn(
     densities: &mut [u16],
     out: &mut [u8],
 ) -> Drained
-    requires { ⌜ Sound st × Begun (st .have) (now line) × Lent (length (now line)) (length (now densities)) ⌝ }
+    requires { ⌜ Sound st × Begun (st .have) (now line) × Buffers (length (now line)) (length (now densities)) ⌝ }
     requires { ⌜ (length (now input) ≤ 65536) × (room ≤ length (now out)) ⌝ }
     ensures { λ r. ⌜ standing r (now (line .exit)) ⌝ }
 {
-    if LINES_MAX < st.lines {
+    if RAYS_MAX < st.rays {
         tell(b"trace: more lines than can be numbered\n");
         return Drained::Over;
     }
@@ -106,10 +109,10 @@ fn turn(
 // A proved loop has to end, and nothing says that the input does: `reads` falls from a number that
 // no run uses up.
 fn serve(input: &mut [u8], line: &mut [u8], densities: &mut [u16], out: &mut [u8])
-    requires { ⌜ Lent (length (now line)) (length (now densities)) ⌝ }
+    requires { ⌜ Buffers (length (now line)) (length (now densities)) ⌝ }
     requires { ⌜ (length (now input) ≤ 65536) × (room ≤ length (now out)) ⌝ }
 {
-    let mut st = State::new();
+    let mut st = State::new(Axis::TENTHS);
     let mut reads: u64 = 18446744073709551615;
     while 0 < reads {
         reads -= 1;

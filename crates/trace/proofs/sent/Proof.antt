@@ -3,14 +3,12 @@ use borrow.Author.Needs.{needs}
 use Rattle.trace.proofs.sent.Statement.{statement}
 use Rattle.trace.proofs.sent.Tie as tie
 
-flush-requires : tie.Need-flush-requires
-flush-requires c κs = search needs
-
-returns : tie.Need-returns
-returns c = search needs
-
 returns-2 : tie.Need-returns-2
 returns-2 c = λ e. cc
 
 pub sent-spec : {M : Type 1} → statement M
-sent-spec = tie.close (tie.spec flush-requires returns returns-2)
+sent-spec = tie.close
+    (tie.spec
+    (λ c κs. search needs)
+    (λ c. search needs)
+    returns-2)

@@ -1,58 +1,46 @@
--- `trace::serve` meets its contract. The loop keeps the state sound, and the lists keep their lengths. Assumes nothing.
-use mathlib.Core.List.{[]}
-use mathlib.Core.Path.{_≡_, refl, _∙_}
+-- `trace::serve` meets its contract. The loop keeps `Serving`. Assumes nothing.
+use mathlib.Core.Path.{refl, _∙_}
 use native.Mathlib.Omega.{arith}
-use lib.ListN.{length}
 use borrow.Author.Needs.{needs}
-use Rattle.job.specs.Sound.{Sound, Begun}
-use Rattle.job.proofs.Running.{run-begins}
-use Rattle.trace.proofs.Draining.{as-standing}
+use Rattle.job.specs.InAll.{held}
+use Rattle.job.proofs.Lengths.{as-long, still, buffers}
+use Rattle.job.proofs.Running.{new-begun}
+use Rattle.trace.proofs.Draining.{Serving, as-standing}
 use Rattle.trace.proofs.serve.Statement.{statement}
 use Rattle.trace.proofs.serve.Tie as tie
 
 abbrev Inv-loop : tie.InvT-loop
-Inv-loop input₀ line₀ densities₀ out₀ st₀ reads₀ t9 input line densities out st reads =
-    (length input ≡ length input₀) × (length line ≡ length line₀) × (length densities ≡ length densities₀) × (length out ≡ length out₀) × Sound st × Begun (st .have) line
+Inv-loop input₀ line₀ densities₀ out₀ st₀ reads₀ t9 input line densities out st reads = Serving input₀ (held line₀ densities₀ out₀) input (held line densities out) st
 
 abbrev μ-loop : tie.MeasureT-loop
 μ-loop input₀ line₀ densities₀ out₀ st₀ reads₀ t9 input line densities out st reads = reads
 
-new-requires : tie.Need-new-requires Inv-loop μ-loop
-new-requires c κs = tt
+abbrev loop : tie.After-turn Inv-loop μ-loop → tie.At-loop Inv-loop μ-loop
+loop c = c .before .before .before .before .before .before
 
 loop-holds : tie.Need-loop-holds Inv-loop μ-loop
 loop-holds c =
-    let a = c .before .before .before .before .before .args in
-    let new = c .new in
-    let r = run-begins [] (a .line .now) (a .densities .now) [] (new .result) (new .ensures .0 (a .densities .now)) (new .ensures .1 .0) (new .ensures .1 .1) in
-    (refl, refl, refl, refl, new .ensures .1 .0, r .begun)
-
-sub-reads : tie.Need-sub-reads Inv-loop μ-loop
-sub-reads c = omega arith
+    let new = c .new .ensures .1 in
+    record { input-kept = refl; kept = as-long; sound = new .0; begun = new-begun (c .before .before .before .before .before .args .line .now) (new .1) }
 
 turn-requires : tie.Need-turn-requires Inv-loop μ-loop
 turn-requires c κs =
-    let s = c .before .before .before .before .before .before .before .before .before .before .before in
-    let o = c .before .before .before .before .before .loop in
-    ((o .inv .4, o .inv .5, record { line = omega (arith, o .inv .1, s .pre .0 .line); densities = omega (arith, o .inv .2, s .pre .0 .densities) }), (omega (arith, o .inv .0, s .pre .1 .0), omega (arith, o .inv .3, s .pre .1 .1)))
-
-enum-known-drained : tie.Need-enum-known-drained Inv-loop μ-loop
-enum-known-drained c = search needs
-
-enum-told : tie.Need-enum-told Inv-loop μ-loop
-enum-told c = search needs
+    let l = c .before .before .before .before .before in
+    let i = l .loop .inv in
+    let p = l .before .before .before .before .before .before .pre in
+    ((i .sound, i .begun, buffers (i .kept) (p .0)), (omega (arith, i .input-kept, p .1 .0), omega (arith, i .kept .out, p .1 .1)))
 
 same-length : tie.Need-same-length Inv-loop μ-loop
-same-length c = c .before .before .before .before .before .before .before .before .before .before .turn .kept .1 .0 ∙ c .before .before .before .before .before .before .before .before .before .before .before .before .before .before .before .before .loop .inv .0
+same-length c = let t = c .before .before .before .before .before .before .before .before .before .before in t .turn .kept .1 .0 ∙ loop t .loop .inv .input-kept
 
 same-length-2 : tie.Need-same-length-2 Inv-loop μ-loop
-same-length-2 c = c .before .before .before .before .before .before .before .before .before .before .turn .kept .1 .1 .0 ∙ c .before .before .before .before .before .before .before .before .before .before .before .before .before .before .before .before .loop .inv .1
+same-length-2 c = let t = c .before .before .before .before .before .before .before .before .before .before in t .turn .kept .1 .1 .0 ∙ loop t .loop .inv .kept .line
 
 same-length-3 : tie.Need-same-length-3 Inv-loop μ-loop
-same-length-3 c = c .before .before .before .before .before .before .before .before .before .before .turn .kept .1 .1 .1 .0 ∙ c .before .before .before .before .before .before .before .before .before .before .before .before .before .before .before .before .loop .inv .2
+same-length-3 c = let t = c .before .before .before .before .before .before .before .before .before .before in t .turn .kept .1 .1 .1 .0 ∙ loop t .loop .inv .kept .densities
 
 same-length-4 : tie.Need-same-length-4 Inv-loop μ-loop
-same-length-4 c = c .before .before .before .before .before .before .before .before .before .before .turn .kept .1 .1 .1 .1 .0 ∙ c .before .before .before .before .before .before .before .before .before .before .before .before .before .before .before .before .loop .inv .3
+same-length-4 c = let t = c .before .before .before .before .before .before .before .before .before .before in t .turn .kept .1 .1 .1 .1 .0 ∙ loop t .loop .inv .kept .out
 
 returns : tie.Need-returns Inv-loop μ-loop
 returns c = tt
@@ -62,11 +50,16 @@ loop-less c = omega (arith, c .before .before .before .before .before .before .b
 
 loop-again : tie.Need-loop-again Inv-loop μ-loop
 loop-again c =
-    let o = c .before .before .before .before .before .before .before .before .before .before .before .before .before .before .before .before .before .loop in
-    let t = c .before .before .before .before .before .before .before .before .before .before .before .turn in
-    let v = c .before .drained .given in
-    let stand = as-standing (v .0 .0) (t .last .1 .1 .0) (v .1) (t .ensures) in
-    (t .kept .1 .0 ∙ o .inv .0, t .kept .1 .1 .0 ∙ o .inv .1, t .kept .1 .1 .1 .0 ∙ o .inv .2, t .kept .1 .1 .1 .1 .0 ∙ o .inv .3, stand .0, stand .1)
+    let t = c .before .before .before .before .before .before .before .before .before .before .before in
+    let l = t .turn .kept in
+    let i = loop t .loop .inv in
+    let stand = as-standing (t .turn .last .1 .1 .0) (c .before .drained .given .1) (t .turn .ensures) in
+    record {
+      input-kept = l .1 .0 ∙ i .input-kept;
+      kept = still (i .kept) (record { line = l .1 .1 .0; densities = l .1 .1 .1 .0; out = l .1 .1 .1 .1 .0 });
+      sound = stand .0;
+      begun = stand .1;
+    }
 
 slice-aggregate-tell : tie.Need-slice-aggregate-tell Inv-loop μ-loop
 slice-aggregate-tell c = refl
@@ -75,16 +68,16 @@ tell-requires : tie.Need-tell-requires Inv-loop μ-loop
 tell-requires c κs = tt
 
 same-length-5 : tie.Need-same-length-5 Inv-loop μ-loop
-same-length-5 c = c .before .before .before .loop .inv .0
+same-length-5 c = c .before .before .before .loop .inv .input-kept
 
 same-length-6 : tie.Need-same-length-6 Inv-loop μ-loop
-same-length-6 c = c .before .before .before .loop .inv .1
+same-length-6 c = c .before .before .before .loop .inv .kept .line
 
 same-length-7 : tie.Need-same-length-7 Inv-loop μ-loop
-same-length-7 c = c .before .before .before .loop .inv .2
+same-length-7 c = c .before .before .before .loop .inv .kept .densities
 
 same-length-8 : tie.Need-same-length-8 Inv-loop μ-loop
-same-length-8 c = c .before .before .before .loop .inv .3
+same-length-8 c = c .before .before .before .loop .inv .kept .out
 
 returns-2 : tie.Need-returns-2 Inv-loop μ-loop
 returns-2 c = tt
@@ -95,12 +88,12 @@ serve-spec =
     (tie.spec
     Inv-loop
     μ-loop
-    new-requires
+    (λ c κs. search needs)
     loop-holds
-    sub-reads
+    (λ c. omega arith)
     turn-requires
-    enum-known-drained
-    enum-told
+    (λ c. search needs)
+    (λ c. search needs)
     same-length
     same-length-2
     same-length-3

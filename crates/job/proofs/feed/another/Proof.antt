@@ -1,13 +1,9 @@
 -- `job::feed::another` meets its contract. Assumes nothing.
-use Prim.Native.Nat.{ℕ}
-use mathlib.Core.Path.{_≡_, refl}
+use mathlib.Core.Path.{refl}
 use borrow.Author.Needs.{needs}
 use borrow.Author.Tests.{lt-ltb, le-ltb}
 use Rattle.job.proofs.feed.another.Statement.{statement}
 use Rattle.job.proofs.feed.another.Tie as tie
-
-sub-result : tie.Need-sub-result
-sub-result c = search needs
 
 returns : tie.Need-returns
 returns c =
@@ -20,7 +16,12 @@ returns-2 c =
     rw (c .before .before .if1 .taken, le-ltb (a .p .next) (a .piece) (c .if2 .left)) refl
 
 returns-3 : tie.Need-returns-3
-returns-3 c = search needs
+returns-3 c = rw (c .if1 .left) refl
 
 pub another-spec : {M : Type 1} → statement M
-another-spec = tie.close (tie.spec sub-result returns returns-2 returns-3)
+another-spec = tie.close
+    (tie.spec
+    (λ c. search needs)
+    returns
+    returns-2
+    returns-3)

@@ -14,48 +14,21 @@ abbrev μ-loop : tie.MeasureT-loop
 μ-loop g voxels parts out₀ at e₀ to₀ out e to = length voxels - e
 
 loop-holds : tie.Need-loop-holds Inv-loop μ-loop
-loop-holds c =
-    let a = c .before .before .before .args in
-    cells-begin (volume (a .g)) (a .voxels .now) (a .parts .now) (a .out .now) (a .at)
-
-mul-put-cell : tie.Need-mul-put-cell Inv-loop μ-loop
-mul-put-cell c = omega arith
-
-shared-slice-read-put-cell : tie.Need-shared-slice-read-put-cell Inv-loop μ-loop
-shared-slice-read-put-cell c = omega arith
-
-mul-put-cell-2 : tie.Need-mul-put-cell-2 Inv-loop μ-loop
-mul-put-cell-2 c = omega arith
-
-shared-slice-read-put-cell-2 : tie.Need-shared-slice-read-put-cell-2 Inv-loop μ-loop
-shared-slice-read-put-cell-2 c = omega arith
+loop-holds c = cells-begin
 
 put-cell-requires : tie.Need-put-cell-requires Inv-loop μ-loop
 put-cell-requires c κs = (omega arith, omega arith, omega arith)
 
-add-e : tie.Need-add-e Inv-loop μ-loop
-add-e c = omega arith
-
-loop-less : tie.Need-loop-less Inv-loop μ-loop
-loop-less c = omega arith
-
 loop-again : tie.Need-loop-again Inv-loop μ-loop
 loop-again c =
-    let l = c .before .before .before .before .before .before .before in
-    let a = l .before .before .before .before .args in
-    let o = l .loop in
     let put = c .before .before .put-cell in
-    cells-on (volume (a .g)) (a .voxels .now) (a .parts .now) (a .out .now) (a .at) (o .out) (o .e) (o .to) (o .inv) (put .last .1 .1 .1 .0) (put .result) (omega arith) (omega arith) (put .ensures .0) (put .kept .1 .1 .1 .0) (put .ensures .1)
+    cells-on (c .before .before .before .before .before .before .before .loop .inv) (omega arith) (omega arith) (put .ensures .0) (put .kept .1 .1 .1 .0) (put .ensures .1)
 
 same-length : tie.Need-same-length Inv-loop μ-loop
 same-length c = c .before .loop .inv .kept
 
 returns : tie.Need-returns Inv-loop μ-loop
-returns c =
-    let l = c .before in
-    let a = l .before .before .before .before .args in
-    let o = l .loop in
-    (omega arith, cells-end (volume (a .g)) (a .voxels .now) (a .parts .now) (a .out .now) (a .at) (o .out) (o .e) (o .to) (o .inv) (omega arith))
+returns c = (omega arith, cells-end (c .before .loop .inv) (omega arith))
 
 pub put-cells-spec : {M : Type 1} → statement M
 put-cells-spec =
@@ -64,13 +37,13 @@ put-cells-spec =
     Inv-loop
     μ-loop
     loop-holds
-    mul-put-cell
-    shared-slice-read-put-cell
-    mul-put-cell-2
-    shared-slice-read-put-cell-2
+    (λ c. omega arith)
+    (λ c. omega arith)
+    (λ c. omega arith)
+    (λ c. omega arith)
     put-cell-requires
-    add-e
-    loop-less
+    (λ c. omega arith)
+    (λ c. omega arith)
     loop-again
     same-length
     returns)

@@ -1,91 +1,72 @@
 -- `job::rays::put_ray` meets its contract. Assumes nothing.
-use mathlib.Core.Path.{sym, _∙_}
+use Prim.Native.Nat.{ℕ}
+use mathlib.Core.List.{List}
+use mathlib.Core.Path.{_≡_, sym, _∙_}
 use native.Mathlib.Omega.{arith}
-use lib.ListN.{take}
-use Rattle.job.proofs.Taking.{sides}
-use Rattle.job.proofs.Printing.{first-of, ray-printed}
+use lib.ListN.{length, take}
+use lib.Seq.{length-take-le}
+use Rattle.load.proofs.Taking.{sides}
+use Rattle.job.proofs.Printing.{ray-printed}
 use borrow.Author.Needs.{needs}
 use Rattle.job.proofs.rays.put_ray.Statement.{statement}
 use Rattle.job.proofs.rays.put_ray.Tie as tie
 
-slice-aggregate-traced-ray : tie.Need-slice-aggregate-traced-ray
-slice-aggregate-traced-ray c = search needs
+module _ (c : tie.After-traced-ray) where
+  abbrev s : tie.Start
+  s = c .before .before .before .before .before
 
-slice-aggregate-traced-ray-2 : tie.Need-slice-aggregate-traced-ray-2
-slice-aggregate-traced-ray-2 c = search needs
+  abbrev voxels : List ℕ
+  voxels = c .traced-ray .last .1 .1 .1 .1 .0
 
-traced-ray-requires : tie.Need-traced-ray-requires
-traced-ray-requires c κs = search needs
+  abbrev parts : List ℕ
+  parts = c .traced-ray .last .1 .1 .1 .1 .1 .0
 
-cast-t17 : tie.Need-cast-t17
-cast-t17 c = search needs
+  first-voxels : length (take (c .traced-ray .result .entries) voxels) ≡ c .traced-ray .result .entries
+  first-voxels = length-take-le (c .traced-ray .result .entries) voxels (omega (arith, c .traced-ray .ensures .0 .1, c .traced-ray .kept .1 .1 .1 .1 .0))
 
-slice-aggregate-put-line : tie.Need-slice-aggregate-put-line
-slice-aggregate-put-line c = search needs
-
-slice-aggregate-put-line-2 : tie.Need-slice-aggregate-put-line-2
-slice-aggregate-put-line-2 c = search needs
-
-put-line-requires : tie.Need-put-line-requires
-put-line-requires c κs = search needs
-
-array-share-prefix-voxels : tie.Need-array-share-prefix-voxels
-array-share-prefix-voxels c = search needs
+  first-parts : length (take (c .traced-ray .result .entries) parts) ≡ c .traced-ray .result .entries
+  first-parts = length-take-le (c .traced-ray .result .entries) parts (omega (arith, c .traced-ray .ensures .0 .1, c .traced-ray .kept .1 .1 .1 .1 .1 .0))
 
 slice-aggregate-put-cells : tie.Need-slice-aggregate-put-cells
-slice-aggregate-put-cells c =
-    let t = c .before .before .before .before .before .before .before .before .before .before .traced-ray in
-    sym (first-of (t .result .entries) (t .last .1 .1 .1 .0) (t .ensures .0 .1) (t .kept .1 .1 .1 .0))
-
-array-share-prefix-parts : tie.Need-array-share-prefix-parts
-array-share-prefix-parts c = search needs
+slice-aggregate-put-cells c = sym (first-voxels (c .before .before .before .before .before .before .before .before .before .before))
 
 slice-aggregate-put-cells-2 : tie.Need-slice-aggregate-put-cells-2
-slice-aggregate-put-cells-2 c =
-    let t = c .before .before .before .before .before .before .before .before .before .before .before .traced-ray in
-    sym (first-of (t .result .entries) (t .last .1 .1 .1 .1 .0) (t .ensures .0 .1) (t .kept .1 .1 .1 .1 .0))
+slice-aggregate-put-cells-2 c = sym (first-parts (c .before .before .before .before .before .before .before .before .before .before .before))
 
 put-cells-requires : tie.Need-put-cells-requires
 put-cells-requires c κs =
-    let s = c .before .before .before .before .before .before .before .before .before .before .before .before .before .before .before .before .before in
-    let t = c .before .before .before .before .before .before .before .before .before .before .before .before .traced-ray in
-    let few = t .ensures .0 .1 in
-    let v = first-of (t .result .entries) (t .last .1 .1 .1 .0) few (t .kept .1 .1 .1 .0) in
-    let p = first-of (t .result .entries) (t .last .1 .1 .1 .1 .0) few (t .kept .1 .1 .1 .1 .0) in
-    let n = sides (s .args .g) (s .pre .0 .accepted) in
     let put = c .before .before .before .before .before .put-line in
-    (n .x .0, n .y .0, v ∙ sym p, omega (arith, put .ensures .0, put .kept .0))
-
-same-length : tie.Need-same-length
-same-length c = search needs
+    let t = c .before .before .before .before .before .before .before .before .before .before .before .before in
+    let ok = s t .pre .0 in
+    let n = sides (s t .args .m) (s t .args .g) (omega (arith, ok .suited .small .n-size)) (ok .accepted) in
+    (n .x .0, n .y .0, first-voxels t ∙ sym (first-parts t), omega (arith, put .ensures .0, put .kept .0, first-voxels t, t .traced-ray .ensures .0 .1))
 
 returns : tie.Need-returns
 returns c =
-    let a = c .before .before .before .before .before .before .before .before .before .before .before .before .before .before .before .before .before .before .before .before .args in
-    let t = c .before .before .before .before .before .before .before .before .before .before .before .before .before .before .before .traced-ray in
-    let few = t .ensures .0 .1 in
-    let v = first-of (t .result .entries) (t .last .1 .1 .1 .0) few (t .kept .1 .1 .1 .0) in
-    let put = c .before .before .before .before .before .before .before .before .put-line in
-    let more = c .before .before .put-cells in (
-      omega (arith, put .ensures .0, more .ensures .0),
-      ray-printed (take (a .at) (a .out .now)) (a .g) (a .densities .now) (a .r) (t .ensures .0 .0) (t .ensures .1 .0) (t .ensures .1 .1) (put .ensures .1) (more .ensures .1),
+    let more = c .before .before .put-cells .ensures in
+    let put = c .before .before .before .before .before .before .before .before .put-line .ensures in
+    let t = c .before .before .before .before .before .before .before .before .before .before .before .before .before .before .before in
+    let e = t .traced-ray .ensures in
+    let a = s t .args in (
+      omega (arith, put .0, more .0, first-voxels t, e .0 .1),
+      ray-printed (take (a .at) (a .out .now)) (a .m) (a .g) (a .densities .now) (a .r) (e .0 .0) (e .1 .0) (e .1 .1) (put .1) (more .1),
     )
 
 pub put-ray-spec : {M : Type 1} → statement M
 put-ray-spec =
     tie.close
     (tie.spec
-    slice-aggregate-traced-ray
-    slice-aggregate-traced-ray-2
-    traced-ray-requires
-    cast-t17
-    slice-aggregate-put-line
-    slice-aggregate-put-line-2
-    put-line-requires
-    array-share-prefix-voxels
+    (λ c. search needs)
+    (λ c. search needs)
+    (λ c κs. search needs)
+    (λ c. search needs)
+    (λ c. search needs)
+    (λ c. search needs)
+    (λ c κs. search needs)
+    (λ c. search needs)
     slice-aggregate-put-cells
-    array-share-prefix-parts
+    (λ c. search needs)
     slice-aggregate-put-cells-2
     put-cells-requires
-    same-length
+    (λ c. search needs)
     returns)

@@ -1,64 +1,49 @@
 -- `job::rays::ray_in` meets its contract. Assumes nothing.
-use Rattle.text.specs.Split.{split}
-use Rattle.job.proofs.Fields.{plain, all-read, none-read, ray-read, ray-bad}
+use mathlib.Core.List.{List}
+use mathlib.Core.Option.{Option, Option·map}
+use mathlib.Core.Path.{sym, ap}
+use lib.IntN.{ℤ}
+use Rattle.load.proofs.Fields.{plain, all-read, none-read}
+use Rattle.job.specs.declared.rays.RayLine.{RayLine}
+use Rattle.job.specs.Line.{rayOf}
+use Rattle.job.specs.Read.{readRay}
 use borrow.Author.Needs.{needs}
 use Rattle.job.proofs.rays.ray_in.Statement.{statement}
 use Rattle.job.proofs.rays.ray_in.Tie as tie
 
-slice-aggregate-integers : tie.Need-slice-aggregate-integers
-slice-aggregate-integers c = search needs
-
-integers-requires : tie.Need-integers-requires
-integers-requires c κs = search needs
-
-array-copy-out-t8 : tie.Need-array-copy-out-t8
-array-copy-out-t8 c = search needs
-
-array-copy-out-t11 : tie.Need-array-copy-out-t11
-array-copy-out-t11 c = search needs
-
-array-copy-out-t14 : tie.Need-array-copy-out-t14
-array-copy-out-t14 c = search needs
-
-array-copy-out-t18 : tie.Need-array-copy-out-t18
-array-copy-out-t18 c = search needs
-
-array-copy-out-t21 : tie.Need-array-copy-out-t21
-array-copy-out-t21 c = search needs
-
-array-copy-out-t24 : tie.Need-array-copy-out-t24
-array-copy-out-t24 c = search needs
+-- what the six numbers are answered as
+abbrev ends : Option (List ℤ) → RayLine
+ends o = readRay (Option·map rayOf o)
 
 returns : tie.Need-returns
 returns c =
-    let read = c .before .before .before .before .before .before .before .before .integers in
-    let vs = read .last .1 .1 .1 .0 in
+    let k = c .before .before .before .before .before .before .before .before in
+    let vs = k .integers .last .1 .1 .1 .0 in
     let e0 : plain vs 0 = search needs in
     let e1 : plain vs 1 = search needs in
     let e2 : plain vs 2 = search needs in
     let e3 : plain vs 3 = search needs in
     let e4 : plain vs 4 = search needs in
     let e5 : plain vs 5 = search needs in
-    let line = c .before .before .before .before .before .before .before .before .before .before .before .args .line .now in
     rw (e0, e1, e2, e3, e4, e5)
-    (ray-read (split 9 line) (all-read 6 vs (read .ensures) (c .before .before .before .before .before .before .if1 .taken) (read .kept .1 .1 .1 .0)))
+    (ap ends (sym (all-read 6 vs (k .integers .ensures) (c .before .before .before .before .before .before .if1 .taken) (k .integers .kept .1 .1 .1 .0))))
 
 returns-2 : tie.Need-returns-2
 returns-2 c =
-    let read = c .before .before .integers in
-    ray-bad (split 9 (c .before .before .before .before .before .args .line .now)) (none-read 6 (read .last .1 .1 .1 .0) (read .ensures) (c .if1 .left))
+    let k = c .before .before in
+    ap ends (sym (none-read 6 (k .integers .last .1 .1 .1 .0) (k .integers .ensures) (c .if1 .left)))
 
 pub ray-in-spec : {M : Type 1} → statement M
 ray-in-spec =
     tie.close
     (tie.spec
-    slice-aggregate-integers
-    integers-requires
-    array-copy-out-t8
-    array-copy-out-t11
-    array-copy-out-t14
-    array-copy-out-t18
-    array-copy-out-t21
-    array-copy-out-t24
+    (λ c. search needs)
+    (λ c κs. search needs)
+    (λ c. search needs)
+    (λ c. search needs)
+    (λ c. search needs)
+    (λ c. search needs)
+    (λ c. search needs)
+    (λ c. search needs)
     returns
     returns-2)

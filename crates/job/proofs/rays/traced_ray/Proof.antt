@@ -4,22 +4,17 @@ use borrow.Author.Needs.{needs}
 use Rattle.job.proofs.rays.traced_ray.Statement.{statement}
 use Rattle.job.proofs.rays.traced_ray.Tie as tie
 
-trace-requires : tie.Need-trace-requires
-trace-requires c κs = search needs
-
-same-length : tie.Need-same-length
-same-length c = search needs
-
-same-length-2 : tie.Need-same-length-2
-same-length-2 c = search needs
-
 returns : tie.Need-returns
 returns c =
-    let s = c .before .before .before .before .before .before .before .before .before .before in
-    let a = s .args in
     let t = c .before .before .before .before .trace in
-    let so = traced-so (a .g) (a .r) (a .densities .now) (a .voxels .now) (a .parts .now) (s .pre .0) (s .pre .1) (s .pre .2) (t .result) (t .last .1 .1 .1 .0) (t .last .1 .1 .1 .1 .0) (t .ensures .0) (t .ensures .1 .0) (t .ensures .1 .1) in
+    let p = c .before .before .before .before .before .before .before .before .before .before .pre in
+    let so = traced-so (t .ensures) (p .0) (p .1) (p .2) in
     ((so .answer, so .few), (so .voxels-are, so .parts-are))
 
 pub traced-ray-spec : {M : Type 1} → statement M
-traced-ray-spec = tie.close (tie.spec trace-requires same-length same-length-2 returns)
+traced-ray-spec = tie.close
+    (tie.spec
+    (λ c κs. search needs)
+    (λ c. search needs)
+    (λ c. search needs)
+    returns)

@@ -21,7 +21,7 @@ word-of-requires : tie.Need-word-of-requires
 word-of-requires c κs = search needs
 
 returns : tie.Need-returns
-returns c = c .word-of .ensures ∙ ap wordOf (c .before .before .field .ensures .1 .0)
+returns c = c .word-of .ensures ∙ ap (wordOf (c .before .before .before .before .before .args .own .now)) (c .before .before .field .ensures .1 .0)
 
 pub first-word-spec : {M : Type 1} → statement M
 first-word-spec =

@@ -23,21 +23,18 @@ returns-2 c =
     let grid = c .before .before .before in
     rw (← grid .before .same-bytes .ensures, grid .if1 .left, ← c .before .same-bytes2 .ensures, c .if2 .taken)
 
-slice-aggregate-same-bytes-3 : tie.Need-slice-aggregate-same-bytes-3
-slice-aggregate-same-bytes-3 c = search needs
-
 same-bytes-requires-3 : tie.Need-same-bytes-requires-3
 same-bytes-requires-3 c κs = search needs
 
 returns-3 : tie.Need-returns-3
 returns-3 c =
-    let dens = c .before .before .before in
+    let dens = c .before .before in
     let grid = dens .before .before .before in
     rw (← grid .before .same-bytes .ensures, grid .if1 .left, ← dens .before .same-bytes2 .ensures, dens .if2 .left, ← c .before .same-bytes3 .ensures, c .if3 .taken)
 
 returns-4 : tie.Need-returns-4
 returns-4 c =
-    let dens = c .before .before .before in
+    let dens = c .before .before in
     let grid = dens .before .before .before in
     rw (← grid .before .same-bytes .ensures, grid .if1 .left, ← dens .before .same-bytes2 .ensures, dens .if2 .left, ← c .before .same-bytes3 .ensures, c .if3 .left)
 
@@ -51,7 +48,6 @@ word-of-spec =
     slice-aggregate-same-bytes-2
     same-bytes-requires-2
     returns-2
-    slice-aggregate-same-bytes-3
     same-bytes-requires-3
     returns-3
     returns-4)
