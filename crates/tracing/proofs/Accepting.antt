@@ -15,11 +15,12 @@ use Rattle.ray.specs.declared.Ray.{Ray}
 use Rattle.ray.specs.declared.Lent.{Lent}
 use Rattle.ray.specs.Length.{volume, count, listOf}
 use Rattle.ray.specs.Codes.{gridRows, endRows, frontRows}
+use Rattle.line.proofs.Tenths.{tenths-small}
 use Rattle.tracing.specs.Answer.{codeOf}
 use Rattle.tracing.specs.Inside.{Suited, Accepted}
 
 pub tenths-suited : Suited tenths
-tenths-suited = record { small = record { coord-some = omega arith; coord-size = omega arith; d-size = omega arith; n-size = omega arith }; d-size = omega arith }
+tenths-suited = record { small = tenths-small; d-size = omega arith }
 
 module _ (m : Limits) (g : Grid) (r : Ray) (l : Lent) where
   abbrev lists : Row
