@@ -9,6 +9,5 @@ returns-2 c = λ e. cc
 pub sent-spec : {M : Type 1} → statement M
 sent-spec = tie.close
     (tie.spec
-    (λ c κs. search needs)
-    (λ c. search needs)
+    (λ c κs. search needs) (λ c. search needs)
     returns-2)

@@ -92,8 +92,7 @@ serve-spec =
     loop-holds
     (λ c. omega arith)
     turn-requires
-    (λ c. search needs)
-    (λ c. search needs)
+    (λ c. search needs) (λ c. search needs)
     same-length
     same-length-2
     same-length-3

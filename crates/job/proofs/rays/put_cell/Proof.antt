@@ -25,15 +25,8 @@ pub put-cell-spec : {M : Type 1} → statement M
 put-cell-spec =
     tie.close
     (tie.spec
-    (λ c. search needs)
-    (λ c. search needs)
-    (λ c. search needs)
-    (λ c. search needs)
-    (λ c. search needs)
+    (λ c. search needs) (λ c. search needs) (λ c. search needs) (λ c. search needs) (λ c. search needs)
     cast-t18
     cast-t19
     cast-t20
-    (λ c. search needs)
-    (λ c κs. search needs)
-    (λ c. search needs)
-    (λ c. search needs))
+    (λ c. search needs) (λ c κs. search needs) (λ c. search needs) (λ c. search needs))

@@ -25,10 +25,7 @@ pub job-spec : {M : Type 1} → statement M
 job-spec =
     tie.close
     (tie.spec
-    (λ c κs. search needs)
-    (λ c. search needs)
-    (λ c. search needs)
-    (λ c. search needs)
+    (λ c κs. search needs) (λ c. search needs) (λ c. search needs) (λ c. search needs)
     run-requires
     (λ c. search needs)
     returns)

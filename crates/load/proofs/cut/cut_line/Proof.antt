@@ -43,16 +43,12 @@ cut-line-spec =
     Inv-loop
     μ-loop
     loop-holds
-    (λ c. omega arith)
-    (λ c. omega arith)
+    (λ c. omega arith) (λ c. omega arith)
     same-length
     returns
     same-length-2
     returns-2
-    (λ c. omega arith)
-    (λ c. omega arith)
-    (λ c. omega arith)
-    (λ c. omega arith)
+    (λ c. omega arith) (λ c. omega arith) (λ c. omega arith) (λ c. omega arith)
     loop-again
     same-length-3
     returns-3)

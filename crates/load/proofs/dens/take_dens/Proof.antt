@@ -79,8 +79,7 @@ pub take-dens-spec : {M : Type 1} → statement M
 take-dens-spec =
     tie.close
     (tie.spec
-    (λ c. search needs)
-    (λ c. search needs)
+    (λ c. search needs) (λ c. search needs)
     naturals-requires
     (λ c. search needs)
     store-requires

@@ -31,7 +31,10 @@ voxels-of-requires c κs =
     (omega (arith, ok X .few, s .pre .n-size), omega (arith, ok Y .few, s .pre .n-size), omega (arith, ok Z .few, s .pre .n-size))
 
 returns-2 : tie.Need-returns-2
-returns-2 c = let a = c .before .before .before .before .before .args in at-densities (a .m) (a .g) (a .r) (a .lent) (grid (c .before .before .before)) (λ e. c .if2 .taken (e ∙ sym (c .before .before .voxels-of .ensures)))
+returns-2 c =
+    let k = c .before .before .before in
+    let a = k .before .before .args in
+    at-densities (a .m) (a .g) (a .r) (a .lent) (grid k) (λ e. c .if2 .taken (e ∙ sym (c .before .before .voxels-of .ensures)))
 
 ends-code-requires : tie.Need-ends-code-requires
 ends-code-requires c κs = search needs

@@ -2,7 +2,7 @@ use mathlib.Core.Path.{_≡_, refl, sym, _∙_}
 use mathlib.Core.Logic.{⊎-elim}
 use native.Mathlib.Omega.{arith}
 use Rattle.tracing.specs.Answer.{lists, lent}
-use Rattle.tracing.proofs.Accepting.{code-free}
+use Rattle.tracing.proofs.Accepting.{Free, code-free}
 use Rattle.tracing.proofs.Answering.{refuses}
 use Rattle.tracing.proofs.Appending.{tail-answers}
 use borrow.Author.Needs.{needs}
@@ -44,8 +44,10 @@ same-length-2 c = search needs
 
 returns : tie.Need-returns
 returns c =
-    let a = c .before .before .before .before .before .before .before .before .before .before .before .before .args in
-    tail-answers (a .m) (a .g) (a .r) (a .densities .now) (a .voxels .now) (a .parts .now) (a .filled) (c .before .before .before .before .before .before .before .before .if1 .taken) (c .before .before .before .before .before .before .before .if2 .taken) (c .before .before .before .before .trace .ensures)
+    let k = c .before .before .before .before .before .before .before in
+    let a = k .before .before .before .before .before .args in
+    tail-answers (a .m) (a .g) (a .r) (a .densities .now) (a .voxels .now) (a .parts .now) (a .filled) (k .before .if1 .taken) (k .if2 .taken)
+    (c .before .before .before .before .trace .ensures)
 
 code-of-requires : tie.Need-code-of-requires
 code-of-requires c κs = search needs
@@ -58,8 +60,10 @@ returns-2 c =
     let a = c .before .before .before .before .before .before .args in
     let l = lent (lists (a .densities .now) (a .voxels .now) (a .parts .now) (a .filled)) in
     let k = c .before .code-of .ensures in
-    let not-free : c .before .code-of .result ≡ 0 → ⊥ = λ z. let f = code-free (a .m) (a .g) (a .r) l (sym k ∙ z) in ⊎-elim (λ w. omega (arith, f .room)) (λ w. omega (arith, f .room, f .accepted .lists-are)) (c .before .before .if1 .came) in
-    refuses (a .m) (a .g) (a .r) _ _ k not-free (c .refusal .ensures) refl refl
+    let free : c .before .code-of .result ≡ 0 → Free (a .m) (a .g) (a .r) l = λ z. code-free (a .m) (a .g) (a .r) l (sym k ∙ z) in
+    let none : c .before .code-of .result ≡ 0 → ⊥ = λ z.
+    ⊎-elim (λ w. omega (arith, free z .room)) (λ w. omega (arith, free z .room, free z .accepted .lists-are)) (c .before .before .if1 .came) in
+    refuses (a .m) (a .g) (a .r) _ _ k none (c .refusal .ensures) refl refl
 
 pub append-spec : {M : Type 1} → statement M
 append-spec =
