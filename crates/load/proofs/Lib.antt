@@ -5,3 +5,4 @@ pub mod Fields
 pub mod Cutting
 pub mod Loading
 pub mod Due
+pub mod Once
