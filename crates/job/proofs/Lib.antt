@@ -1,7 +1,7 @@
 -- Laws of the text job.
 pub mod Example
 pub mod Once
-pub mod Places
+pub mod FewPlanes
 pub mod Tracing
 pub mod Printing
 pub mod Steps

@@ -21,7 +21,7 @@ use Rattle.tracing.proofs.Room.{within-sizes, enough}
 use Rattle.load.proofs.Taking.{sides}
 use Rattle.job.specs.Rays.{rayCode, traced, passed}
 use Rattle.job.specs.Sound.{Taken}
-use Rattle.job.proofs.Places.{few-planes}
+use Rattle.job.proofs.FewPlanes.{few-planes}
 
 pub record Traced (m : Limits) (g : Grid) (r : Ray) (densities : List ℕ) (a : Trace) (voxels parts : List ℕ) : Type 0 where
   pub answer : a ≡ traced m g densities r
