@@ -37,10 +37,10 @@ unfoldable pub differentOf : Volume → Ray → ℕ
 differentOf v r = total (λ x. cond (crossedAt v r x) 1 0) (dOf r)
 
 -- three planes of ray C at three α, two of ray D at one
-pub tenths : (differentOf (volume grid) (ray (pos 0) (pos 0) (pos 5) (pos 30) (pos 20) (pos 5)) ≡ 3)
+pub bench-alphas : (differentOf (volume grid) (ray (pos 0) (pos 0) (pos 5) (pos 30) (pos 20) (pos 5)) ≡ 3)
     × (differentOf (volume grid) (ray (pos 0) (pos 0) (pos 5) (pos 20) (pos 20) (pos 5)) ≡ 1)
 unfolding total crosses some crossedAt differentOf
-tenths = (refl, refl)
+bench-alphas = (refl, refl)
 
 -- ---- what the tests decide
 one-of : (b : Side → Bool) (s : Side) → b s ≡ true → (b X || (b Y || b Z)) ≡ true
