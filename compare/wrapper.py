@@ -171,14 +171,15 @@ class Room:
 
 
 def levels(stands: dict[str, list[str]]) -> list[list[str]]:
-    """The crates that the program needs; each stands on levels before its own."""
-    needed = ["trace"]
-    for name in needed:
-        needed += [one for one in stands[name] if one in stands and one not in needed]
-    found: list[list[str]] = []
-    while left := [name for name in needed if name not in sum(found, [])]:
-        found.append(sorted(name for name in left if not set(stands[name]) & set(left)))
-    return found
+    """The crates that the program needs, in the order in which they are come upon; each stands on levels before its own."""
+    found: dict[str, int] = {}
+
+    def level(name: str) -> int:
+        if name not in found:
+            found[name] = 1 + max((level(one) for one in stands[name] if one in stands), default=0)
+        return found[name]
+
+    return [[name for name in found if found[name] == one] for one in range(1, level("trace") + 1)]
 
 
 def transcript(stands: dict[str, list[str]], until: str = "trace") -> list[str]:
