@@ -31,14 +31,13 @@ fn enter(p: Plan, to: u64, voxels: &mut [u32], parts: &mut [u64]) -> usize
     requires { ⌜ length (now voxels) ≡ length (now parts) ⌝ }
     ensures { λ n. ⌜ Entered (entries (p .strides) to (p .walk)) n (now (voxels .exit)) (now (parts .exit)) (now (voxels .entry)) (now (parts .entry)) ⌝ }
 {
-    if (p.crossed as usize) < voxels.len() {
-        return fill(p.walk, p.strides, to, voxels, parts);
+    if voxels.len() <= (p.crossed as usize) {
+        let n = count(p.walk, p.strides, to);
+        if voxels.len() < n {
+            return n;
+        }
     }
-    let n = count(p.walk, p.strides, to);
-    if n <= voxels.len() {
-        return fill(p.walk, p.strides, to, voxels, parts);
-    }
-    n
+    fill(p.walk, p.strides, to, voxels, parts)
 }
 
 // Walks a scene: the entries go to the front of the two lists, where these have room for all of them.

@@ -1,11 +1,29 @@
+use Prim.Native.Nat.{_≤_}
+use mathlib.Core.Logic.{⊎-elim}
 use native.Mathlib.Omega.{arith}
+use lib.ListN.{length}
+use Rattle.walk.specs.Model.{entries}
 use Rattle.walk.proofs.Called.{roomy, cramped}
 use borrow.Author.Needs.{needs}
 use Rattle.walk.proofs.call.enter.Statement.{statement}
 use Rattle.walk.proofs.call.enter.Tie as tie
 
+-- where it comes to filling, there is room: more than the planes crossed, or as the count says
+room : (c : tie.Joined1) → let a = c .before .before .before .args in length (entries (a .p .strides) (a .to) (a .p .walk)) ≤ length (a .voxels .now)
+room c =
+    ⊎-elim (λ w. omega (arith, w .1 .ensures, w .2 .left)) (λ w. omega (arith, c .before .before .before .pre .1 .0, w .left)) (c .if1 .came)
+
+count-requires : tie.Need-count-requires
+count-requires c κs = search needs
+
+returns : tie.Need-returns
+returns c = cramped _ _ (c .before .count .ensures) (omega (arith, c .if2 .taken)) (c .before .before .before .before .before .pre .1 .1)
+
 fill-requires : tie.Need-fill-requires
-fill-requires c κs = search needs
+fill-requires c κs =
+    let s = c .before .before .before .before .before in
+    let h = room (c .before .before) in
+    (s .pre .0, (h, omega (arith, s .pre .1 .1)))
 
 same-length : tie.Need-same-length
 same-length c = search needs
@@ -13,42 +31,11 @@ same-length c = search needs
 same-length-2 : tie.Need-same-length-2
 same-length-2 c = search needs
 
-returns : tie.Need-returns
-returns c =
-    let a = c .before .before .before .before .before .before .before .before .before .before in
-    roomy _ _ (c .before .before .before .before .fill .ensures) (omega (arith, a .pre .1 .0, c .before .before .before .before .before .before .before .if1 .taken)) (a .pre .1 .1)
-
-count-requires : tie.Need-count-requires
-count-requires c κs = search needs
-
-fill-requires-2 : tie.Need-fill-requires-2
-fill-requires-2 c κs = search needs
-
-same-length-3 : tie.Need-same-length-3
-same-length-3 c = search needs
-
-same-length-4 : tie.Need-same-length-4
-same-length-4 c = search needs
-
 returns-2 : tie.Need-returns-2
 returns-2 c =
     let k = c .before .before .before .before .before .before .before in
-    roomy _ _ (c .before .before .before .before .fill2 .ensures) (omega (arith, k .before .count .ensures, k .if2 .taken)) (k .before .before .before .before .before .pre .1 .1)
-
-returns-3 : tie.Need-returns-3
-returns-3 c = cramped _ _ (c .before .count .ensures) (omega (arith, c .if2 .left)) (c .before .before .before .before .before .pre .1 .1)
+    roomy _ _ (c .before .before .before .before .fill .ensures) (room k) (k .before .before .before .pre .1 .1)
 
 pub enter-spec : {M : Type 1} → statement M
 enter-spec =
-    tie.close
-    (tie.spec
-    fill-requires
-    same-length
-    same-length-2
-    returns
-    count-requires
-    fill-requires-2
-    same-length-3
-    same-length-4
-    returns-2
-    returns-3)
+    tie.close (tie.spec count-requires returns fill-requires same-length same-length-2 returns-2)
