@@ -14,17 +14,18 @@ use Rattle.ray.specs.declared.Ray.{Ray}
 use Rattle.ray.specs.declared.Lent.{Lent}
 use Rattle.ray.specs.Length.{X, Y, Z, leg, volume, count, listOf}
 
+-- RULES 6: what a code is asked of in turn: the axes; the coordinates of both ends, axis by axis; the legs
 abbrev pub axes : Grid → List Axis
 axes g = g .x ∷ g .y ∷ g .z ∷ []
-
-abbrev pub gridRows : Limits → Grid → List Row
-gridRows m g = axisRows m (axes g)
 
 abbrev pub ends : Ray → List ℤ
 ends r = r .p .x ∷ r .q .x ∷ r .p .y ∷ r .q .y ∷ r .p .z ∷ r .q .z ∷ []
 
 abbrev pub legs : Ray → List Leg
 legs r = leg r X ∷ leg r Y ∷ leg r Z ∷ []
+
+abbrev pub gridRows : Limits → Grid → List Row
+gridRows m g = axisRows m (axes g)
 
 -- RULES 6: 5, an end beyond the limits on some axis; 6, no axis on which the ends differ
 abbrev pub endRows : Limits → Ray → List Row
