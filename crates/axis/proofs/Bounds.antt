@@ -1,11 +1,11 @@
 -- What an accepted axis and an accepted coordinate may be relied on for, at any limits. Assumes nothing.
 use Prim.Native.Nat.{ℕ, _+_, _*_, _≤_, _<_}
 use mathlib.Core.Path.{_≡_, sym, ap, _∙_}
-use mathlib.Core.Bool.{Bool, true, false, not, _&&_, _||_}
+use mathlib.Core.Bool.{Bool, true, false, not, _&&_}
 use native.Mathlib.Omega.{arith}
 use lib.IntN.{ℤ, pos, negℤ, _+ℤ_}
 use lib.Signed.{leZ}
-use lib.Dec.{leb, ltb, eqb}
+use lib.Dec.{leb, eqb}
 use borrow.Author.Tests.{leb-true, ltb-false, eqb-false, not-false}
 use Rattle.axis.specs.declared.Axis.{Axis}
 use Rattle.axis.specs.Leg.{planes}

@@ -54,10 +54,6 @@ off (r ∷ rs) h e =
     let o = row-off (r .code) (r .applies) (first rs) (ltb-true 0 (r .code) (and-left (ltb 0 (r .code)) _ h)) e in
     (o .0, off rs (and-right (ltb 0 (r .code)) _ h) (o .1))
 
-pub off-first : (xs : List Row) → Off xs → first xs ≡ 0
-off-first [] o = refl
-off-first (r ∷ rs) o = rw (o .0) (off-first rs (o .1))
-
 -- one code asked of several
 pub asked : {A : Type 0} (c : ℕ) (test : A → Bool) (xs : List A) (ys : List Row) → first (each c test xs ++ ys) ≡ cond (some test xs) c (first ys)
 asked c test [] ys = refl

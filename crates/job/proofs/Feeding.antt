@@ -20,7 +20,8 @@ module _ (p : Pumped) (piece out : ℕ) (fits : p .moved .at ≤ out) where
   pub goes-on : another p piece out ≡ true → (p .moved .going ≡ true) × (p .next < piece) × (p .moved .at + room ≤ out)
   goes-on = go (p .moved .going) (ltb (p .next) piece) (leb room (out - p .moved .at)) refl refl refl
     where
-      go : (b c d : Bool) → p .moved .going ≡ b → ltb (p .next) piece ≡ c → leb room (out - p .moved .at) ≡ d → (b && (c && d)) ≡ true → (p .moved .going ≡ true) × (p .next < piece) × (p .moved .at + room ≤ out)
+      go : (b c d : Bool) → p .moved .going ≡ b → ltb (p .next) piece ≡ c → leb room (out - p .moved .at) ≡ d
+          → (b && (c && d)) ≡ true → (p .moved .going ≡ true) × (p .next < piece) × (p .moved .at + room ≤ out)
       go true true true e f g h = (e, ltb-true (p .next) piece f, omega (arith, leb-true room (out - p .moved .at) g))
       go true true false e f g h = let z : _≡_ {A = ℕ} 0 1 = cc in absurd (omega arith)
       go true false d e f g h = let z : _≡_ {A = ℕ} 0 1 = cc in absurd (omega arith)
@@ -50,7 +51,8 @@ module _ {st : State} {from : ℕ} {piece : List ℕ} {k₀ : Held} where
     pub room-now : p .moved .at ≤ length (k .out)
     room-now = omega (arith, f .taken .room, f .kept .out)
 
-    pub feed-on : {q : Pumped} {k′ : Held} → p .moved .going ≡ true → p .next < q .next → AsLong k k′ → Pumping (p .moved .state) (p .moved .at) (p .next) piece k q k′ → Feeding st from piece k₀ q k′
+    pub feed-on : {q : Pumped} {k′ : Held} → p .moved .going ≡ true → p .next < q .next → AsLong k k′
+        → Pumping (p .moved .state) (p .moved .at) (p .next) piece k q k′ → Feeding st from piece k₀ q k′
     feed-on e on l h = record {
       kept = still (f .kept) l;
       taken = record {

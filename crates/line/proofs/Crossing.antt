@@ -69,6 +69,10 @@ module _ (a : Line) (c : ℕ) where
   pub down-fall : (m n : ℕ) → m ≤ n → down-key n ≤ down-key m
   down-fall m n h = mul-le-mul-right c (omega (arith, plane-mono a h))
 
+  -- a still ray is in its voxel from the start
+  all-along : Goes still (a .p) (a .q) → (i t : ℕ) → Within a c t i → Within a c 0 i
+  all-along g i t v = record { inside = v .inside; holds = v .holds; since = omega (arith, enter-voxel a c still g i, zero-mul c); until = omega (arith, v .until) }
+
   module _ (sized : Sized a) (from to i j : ℕ) (wi : Within a c from i) (wj : Within a c (to - 1) j) (h : from < to) where
     -- before `to` is not after the tick before it
     before : (x : ℕ) → ltb x to ≡ not (ltb (to - 1) x)
@@ -90,8 +94,7 @@ module _ (a : Line) (c : ℕ) where
         (λ m. rw (moves (a .p) (a .q) (omega arith), run-down (a .p) (a .q) (plane a m) g, first m, before (down-key m), last m) (turned (ltb i m) (ltb j m)))
         ∙ omega arith
     crossed-by still g =
-        let none : (k t : ℕ) → Within a c t k → Within a c 0 k = λ k t v. record { inside = v .inside; holds = v .holds; since = omega (arith, enter-voxel a c still g k, zero-mul c); until = omega (arith, v .until) } in
-        let same : i ≡ j = one-voxel a sized c 0 (none i from wi) (none j (to - 1) wj) in
+        let same : i ≡ j = one-voxel a sized c 0 (all-along g i from wi) (all-along g j (to - 1) wj) in
         total-zero (λ m. cond (crossAt a c from to m) 1 0) (a .n + 1) (λ m k. rw (stays (a .p) (a .q) g) refl) ∙ omega arith
 
     pub crossed-is : (i - j) + (j - i) ≡ crossedOn a c from to

@@ -5,7 +5,7 @@ use native.Mathlib.Nat.{mul-le-mul-right, mul-le-mul-left, zero-mul, mul-sub}
 use native.Mathlib.Omega.{arith}
 use native.Mathlib.Decide.{decLe}
 use lib.IntN.{ℤ, pos, negℤ, natAbs, _+ℤ_, _-ℤ_, _*ℤ_, +ℤ-assoc, +ℤ-comm, +ℤ-negℤ-cancel, -ℤ-+ℤ-cancel, *ℤ-comm}
-use lib.Signed.{leZ, nonNeg}
+use lib.Signed.{leZ}
 use lib.Dec.{T, le→leb}
 use borrow.Author.Tests.{le-ltb}
 use Rattle.axis.specs.Leg.{Leg}

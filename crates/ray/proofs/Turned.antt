@@ -1,7 +1,7 @@
 -- Demand 3, a ray turned round: in every box it has the same length, and enters where the ray leaves. Assumes nothing.
 use Prim.Native.Nat.{ℕ, _+_, _-_, _*_, _≤_, _<_, min, max}
 use mathlib.Core.Path.{_≡_, refl, sym, ap, ap₂, _∙_}
-use mathlib.Core.Bool.{Bool, true, _&&_, cond}
+use mathlib.Core.Bool.{true, _&&_, cond}
 use mathlib.Core.Bool.{or-comm}
 use mathlib.Core.List.{List}
 use mathlib.Core.Logic.{inl, inr}

@@ -98,7 +98,8 @@ every-holds read P d holds zero fs e i h = absurd (omega arith)
 every-holds read P d holds (suc n) [] e i h = none-some e
 every-holds {A} read P d holds (suc n) (f ∷ fs) {vs} e i h = first (read f) (every read n fs) refl (λ ws q. every-holds read P d holds n fs {vs = ws} q) e i h
   where
-    first : (o : Option A) (os : Option (List A)) → read f ≡ o → ((ws : List A) → os ≡ some ws → (j : ℕ) → j < n → P (getD ws j d)) → ahead o os ≡ some vs → (j : ℕ) → j < suc n → P (getD vs j d)
+    first : (o : Option A) (os : Option (List A)) → read f ≡ o → ((ws : List A) → os ≡ some ws → (j : ℕ) → j < n → P (getD ws j d))
+        → ahead o os ≡ some vs → (j : ℕ) → j < suc n → P (getD vs j d)
     first none os p rest r j g = none-some r
     first (some v) none p rest r j g = none-some r
     first (some v) (some ws) p rest r zero g = rw (← Option·some-injective (v ∷ ws) vs r) (holds f v p)

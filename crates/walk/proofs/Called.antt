@@ -2,12 +2,12 @@
 use Prim.Native.Nat.{ℕ, _+_, _-_, _≤_, _<_}
 use mathlib.Core.Path.{_≡_, refl, sym, ap, _∙_}
 use mathlib.Core.Bool.{true, false}
-use mathlib.Core.List.{List, [], map}
+use mathlib.Core.List.{List}
 use native.Mathlib.Omega.{arith}
 use lib.ListN.{length, take, drop, length-map, take-append-drop}
 use borrow.Author.Tests.{not-true, not-false, le-leb, lt-leb}
 use Rattle.ray.specs.declared.Ray.{Ray}
-use Rattle.ray.specs.Length.{Volume, squaredOf, misses, partOf, spanOf, listOf, crossedOf}
+use Rattle.ray.specs.Length.{Volume, squaredOf, misses, spanOf, listOf, crossedOf}
 use Rattle.line.specs.declared.scene.Scene.{Scene}
 use Rattle.line.specs.Scene.{volumeOf, rayOf, Able}
 use Rattle.walk.specs.declared.plan.Frame.{Frame}

@@ -28,7 +28,8 @@ pub fill-once : (es : List Entry) (voxels parts : List ℕ) (r r′ : ℕ) (vs v
 fill-once es voxels parts r r′ vs vs′ ps ps′ x y =
     let same : r ≡ r′ = once (x .number) (y .number) in
     let y′ : Filled es r vs′ ps′ voxels parts = rw same y in
-    (same, (by-parts r vs vs′ (once (x .voxels-are) (y′ .voxels-are)) (once (x .voxels-rest) (y′ .voxels-rest)), by-parts r ps ps′ (once (x .parts-are) (y′ .parts-are)) (once (x .parts-rest) (y′ .parts-rest))))
+    let same-voxels : vs ≡ vs′ = by-parts r vs vs′ (once (x .voxels-are) (y′ .voxels-are)) (once (x .voxels-rest) (y′ .voxels-rest)) in
+    (same, (same-voxels, by-parts r ps ps′ (once (x .parts-are) (y′ .parts-are)) (once (x .parts-rest) (y′ .parts-rest))))
 
 pub frame-once : (s : Scene) (f f′ : Frame) → Framed s f → Framed s f′ → f ≡ f′
 frame-once s f f′ x y = λ i. record {

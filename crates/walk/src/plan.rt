@@ -9,7 +9,6 @@ use crate::steps::Strides;
 use crate::steps::Walk;
 use line::extremes::least;
 use line::extremes::most;
-use line::line::Line;
 use line::reach::Reach;
 use line::scene::Scene;
 

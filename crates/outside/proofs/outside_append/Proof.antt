@@ -3,7 +3,7 @@ use mathlib.Core.Path.{ap, _∙_}
 use Rattle.tracing.specs.declared.Trace.{Trace}
 use Rattle.ilvoresta.proofs.Again.{grid-again, ray-again}
 use Rattle.ilvoresta.specs.Entry.{sixOf}
-use Rattle.outside.specs.Doors.{put, Appended}
+use Rattle.outside.specs.Doors.{put}
 use borrow.Author.Needs.{needs}
 use Rattle.outside.proofs.outside_append.Statement.{statement}
 use Rattle.outside.proofs.outside_append.Tie as tie

@@ -4,7 +4,7 @@ use mathlib.Core.List.{[], _∷_}
 use Rattle.place.specs.declared.Points.{Points}
 use Rattle.ilvoresta.proofs.Again.{grid-again, ray-again}
 use Rattle.place.specs.Answers.{markCode}
-use Rattle.outside.specs.Doors.{put, markOf, floatsOf, Pointed}
+use Rattle.outside.specs.Doors.{put, markOf, floatsOf}
 use borrow.Author.Needs.{needs}
 use Rattle.outside.proofs.outside_points.Statement.{statement}
 use Rattle.outside.proofs.outside_points.Tie as tie

@@ -1,5 +1,4 @@
 -- `put::put_mark` meets its contract. Assumes nothing.
-use mathlib.Core.Path.{_≡_}
 use mathlib.Core.List.{[], _∷_}
 use Rattle.outside.specs.Doors.{markOf}
 use Rattle.outside.proofs.Stored.{stored, left}

@@ -1,4 +1,4 @@
-use mathlib.Core.Path.{refl, sym, _∙_}
+use mathlib.Core.Path.{sym, _∙_}
 use Rattle.ray.proofs.Accepted.{grid-are}
 use borrow.Author.Needs.{needs}
 use Rattle.ray.proofs.check.grid_code.Statement.{statement}
