@@ -15,7 +15,7 @@ from pathlib import Path
 from typing import Callable, Iterable, Iterator, NamedTuple
 
 import machine
-from source import Item, Source, expanded, items
+from source import Item, Source, expanded, items, unused
 from tally import Tally
 
 PROMISES, DECISIONS, RULES = "docs/PROMISES.md", "docs/DECISIONS.md", "docs/RULES.md"
@@ -288,6 +288,12 @@ def self_test(source: Source, tally: Tally, promises: str, decisions: str) -> No
         tally.check(not missed, f"{told}, and not told: {missed}")
     for words in {span.words for span in spans(promises) if span.file}:
         tally.check(not counted(promises.replace(f"`{words}`", "")).good, f"{words} is taken out of the promises, and the count is told to be right")
+    laws_of = {
+        "crates/a/proofs/One.antt": "pub own : N\nown zero = 0\nown (suc n) =\n    own n\n\npub idle : N\nidle = 0\n\npub step : N\nstep = 0\n",
+        "crates/a/proofs/Two.antt": "use One.{idle, step}\npub end : N\nend = step\n",
+    }
+    dead = [law for law, _ in unused(laws_of)]
+    tally.check(dead == ["own", "idle", "end"], f"of laws that use themselves, are imported and are used are told as unused {dead}")
     old = "document 0" + "1"
     sample = f"RULES {2} and {3.4}, RULES\n-- {5}. By {old} [a file](none.md)"
     told_of = [*cited(sample, "## 2. Two\n### 3.4 Four\n"), *linked(source, PROMISES, sample)]

@@ -16,10 +16,12 @@ DEFINED = re.compile(
     r"^ *(?:(?:pub|abbrev|unfoldable) )*(?:(?:record|data|module) ([^\s(){}:;,.]+)|([^\s(){}:;,.]+) :(?=\s|$))", re.M
 )
 
-# a law of a proof file, and the words of a proof
-LAW = re.compile(r"^ *pub ([^\s(){}:;,.]+) :(?=\s|$)", re.M)
-RECORD = re.compile(r"^( *)pub record .*\n(?:\1 +.*\n)*", re.M)
+# a law of a proof file, the words of a proof, and its imports, of which only a new name is a use
+LAW = re.compile(r"^ *(?:(?:pub|abbrev|unfoldable) )*([^\s(){}:;,.]+) :(?=\s|$)", re.M)
+RECORD = re.compile(r"^( *)(?:pub )?record .*\n(?:\1 +.*\n)*", re.M)
 TERM = re.compile(r"[^\s(){}\[\];,.]+")
+IMPORT = re.compile(r"^ *(?:ghost )?use .*$", re.M)
+RENAMED = re.compile(r"\S+ as \S+")
 
 MODULE = re.compile(r"^pub mod (\w+);$", re.M)
 OWNER = re.compile(r"^(?:pub )?(?:impl|struct|enum) (\w+)")
@@ -76,6 +78,24 @@ def items(text: str, crate: str, module: str, way: bool) -> Iterator[Item]:
             yield Item(crate, module, owner, part[1], "part", way, False, False)
 
 
+def without(text: str, law: str) -> str:
+    """A file less a law's own statement and equations, and all that stands deeper: a law's recursion is no use of it."""
+    word = re.escape(law)
+    return re.sub(rf"^( *)(?:(?:pub|abbrev|unfoldable) )*{word} :.*\n(?:\1(?: .*|{word} .*|unfolding .*|[\])}}].*)\n| *\n)*", "", text, flags=re.M)
+
+
+def unused(texts: dict[str, str]) -> list[tuple[str, str]]:
+    """The laws in these files that no other proof of them uses, each with its file."""
+    told = {name: IMPORT.sub(lambda line: " ".join(RENAMED.findall(line[0])), re.sub(r"--.*", "", text)) for name, text in texts.items()}
+    words = {name: set(TERM.findall(text)) for name, text in told.items()}
+    found = []
+    for name in (name for name in told if "/proofs/" in name and not name.endswith("/Proof.antt")):
+        for law in dict.fromkeys(LAW.findall(RECORD.sub("", told[name]))):
+            if not any(law in words[other] for other in words if other != name) and law not in TERM.findall(without(told[name], law)):
+                found.append((law, name))
+    return found
+
+
 def listed(root: Path) -> list[str]:
     """The repository's files: what git lists, or, in a copy that is no clone, all but what is built."""
     words = ["git", "-C", str(root), "ls-files", "-z", "--cached", "--others", "--exclude-standard"]
@@ -119,16 +139,7 @@ class Source:
 
     @cached_property
     def unused(self) -> list[tuple[str, str]]:
-        """The laws that no other proof uses, each with its file."""
-        text = {name: re.sub(r"--.*", "", self.text(name)) for name in self.matching("crates/*.antt", "crates/*.rt")}
-        words = {name: set(TERM.findall(text[name])) for name in text}
-        found = []
-        for name in self.matching("crates/*/proofs/*.antt"):
-            for law in () if name.endswith("/Proof.antt") else LAW.findall(RECORD.sub("", text[name])):
-                inside = re.sub(rf"^ *(?:pub )?{re.escape(law)} (?::|[^=\n]*=(?=\s))", "", text[name], flags=re.M)
-                if law not in TERM.findall(inside) and not any(law in words[other] for other in words if other != name):
-                    found.append((law, name))
-        return found
+        return unused({name: self.text(name) for name in self.matching("crates/*.antt", "crates/*.rt")})
 
     @cached_property
     def known(self) -> set[str]:
