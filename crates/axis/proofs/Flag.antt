@@ -33,14 +33,6 @@ pub or-right : (a b : Bool) → (a || b) ≡ false → b ≡ false
 or-right false b h = h
 or-right true b h = absurd (true≢false h)
 
-pub or-none : (a : Bool) → (a || false) ≡ a
-or-none true = refl
-or-none false = refl
-
-pub or-group : (a b c : Bool) → ((a || b) || c) ≡ (a || (b || c))
-or-group true b c = refl
-or-group false b c = refl
-
 pub lt-not-le : (a b : ℕ) → ltb a b ≡ not (leb b a)
 lt-not-le a b = elim (decLe b a) [ yes h ↦ rw (le-ltb a b h, le-leb b a h) | no h ↦ rw (lt-ltb a b (omega arith), lt-leb b a (omega arith)) ]
 

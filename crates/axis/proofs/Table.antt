@@ -1,4 +1,4 @@
--- Laws of a table of refusals: two tables joined, code 0, one code asked of several things. Assumes nothing.
+-- Laws of a table of refusals: two tables joined, code 0, one code in two rows. Assumes nothing.
 use Prim.Native.Nat.{ℕ, _<_}
 use mathlib.Core.Path.{_≡_, refl, sym, ap, _∙_}
 use mathlib.Core.Bool.{Bool, true, false, _&&_, _||_, cond}
@@ -7,7 +7,7 @@ use native.Mathlib.Omega.{arith}
 use native.Mathlib.Decide.{ℕ-discrete}
 use lib.Dec.{eqb, ltb}
 use borrow.Author.Tests.{ltb-true, eq-eqb, ne-eqb}
-use Rattle.axis.specs.Codes.{Row, first, some, each}
+use Rattle.axis.specs.Codes.{Row, first}
 use Rattle.axis.proofs.Flag.{and-left, and-right}
 
 -- a code that is not 0 is the answer, 0 asks on
@@ -54,11 +54,7 @@ off (r ∷ rs) h e =
     let o = row-off (r .code) (r .applies) (first rs) (ltb-true 0 (r .code) (and-left (ltb 0 (r .code)) _ h)) e in
     (o .0, off rs (and-right (ltb 0 (r .code)) _ h) (o .1))
 
--- one code asked of several
-pub asked : {A : Type 0} (c : ℕ) (test : A → Bool) (xs : List A) (ys : List Row) → first (each c test xs ++ ys) ≡ cond (some test xs) c (first ys)
-asked c test [] ys = refl
-asked c test (x ∷ xs) ys = ap (cond (test x) c) (asked c test xs ys) ∙ either (test x) (some test xs)
-  where
-    either : (t u : Bool) → cond t c (cond u c (first ys)) ≡ cond (t || u) c (first ys)
-    either true u = refl
-    either false u = refl
+-- one code in two rows applies where either does
+pub either : (c : ℕ) (t u : Bool) (d : ℕ) → cond t c (cond u c d) ≡ cond (t || u) c d
+either c true u d = refl
+either c false u d = refl

@@ -1,6 +1,6 @@
 -- RULES 1 and the rows on axes of RULES 6. Definitions only. Assumes nothing.
 use Prim.Native.Nat.{ℕ}
-use mathlib.Core.Bool.{Bool, false, _&&_, _||_, not, cond}
+use mathlib.Core.Bool.{Bool, _&&_, _||_, not, cond}
 use mathlib.Core.List.{List, [], _∷_, _++_, map}
 use lib.IntN.{ℤ, pos, negℤ}
 use lib.Signed.{leZ}
@@ -31,11 +31,7 @@ abbrev pub first : List Row → ℕ
 first [] = 0
 first (r ∷ rs) = cond (r .applies) (r .code) (first rs)
 
--- whether a test holds of some of a list; and one code asked of each in turn, a row for each
-abbrev pub some : {A : Type 0} → (A → Bool) → List A → Bool
-some test [] = false
-some test (x ∷ xs) = test x || some test xs
-
+-- one code asked of each in turn, a row for each
 abbrev pub each : {A : Type 0} → ℕ → (A → Bool) → List A → List Row
 each c test xs = map (λ x. row c (test x)) xs
 

@@ -1,41 +1,64 @@
 -- What the codes of a grid and of ends say, at any limits. Assumes nothing.
+use Prim.Native.Nat.{ℕ}
 use mathlib.Core.Path.{_≡_, refl, ap, _∙_}
-use mathlib.Core.Bool.{Bool, true, not, cond}
-use mathlib.Core.List.{[], _∷_, _++_}
+use mathlib.Core.Bool.{Bool, true, not, _||_, cond}
 use borrow.Author.Tests.{not-false}
 use Rattle.axis.specs.declared.Axis.{Axis}
 use Rattle.axis.specs.declared.Limits.{Limits}
 use Rattle.axis.specs.Leg.{moving}
-use Rattle.axis.specs.Codes.{inside, row, first, some, each, beyond, planesOut}
-use Rattle.axis.proofs.Table.{off, asked}
+use Rattle.axis.specs.Codes.{inside, first, beyond, planesOut}
+use Rattle.axis.proofs.Table.{off, either}
 use Rattle.axis.proofs.Bounds.{AxisOk, axis-ok}
 use Rattle.ray.specs.declared.Grid.{Grid}
 use Rattle.ray.specs.declared.Ray.{Ray}
 use Rattle.ray.specs.Length.{Side, X, Y, Z, leg}
-use Rattle.ray.specs.Codes.{axes, gridRows, ends, legs, endRows}
+use Rattle.ray.specs.Codes.{gridRows, endRows}
+use Rattle.ray.proofs.Tests.{any}
 
 abbrev pub axisOf : Grid → Side → Axis
 axisOf g X = g .x
 axisOf g Y = g .y
 axisOf g Z = g .z
 
+-- one code asked of x, y and z
+asked : (c : ℕ) (b : Side → Bool) (d : ℕ) → cond (b X) c (cond (b Y) c (cond (b Z) c d)) ≡ cond (any b) c d
+asked c b d = ap (cond (b X) c) (either c (b Y) (b Z) d) ∙ either c (b X) (b Y || b Z) d
+
+-- the codes of a grid, each by a test of some side
+module _ (m : Limits) (g : Grid) where
+  abbrev noN : Side → Bool
+  noN o = beyond (m .n) (axisOf g o .n)
+
+  abbrev noD : Side → Bool
+  noD o = beyond (m .d) (axisOf g o .d)
+
+  abbrev far : Side → Bool
+  far o = planesOut m (axisOf g o)
+
+  pub grid-are : first (gridRows m g) ≡ cond (any noN) 1 (cond (any noD) 2 (cond (any far) 3 0))
+  grid-are = asked 1 noN _ ∙ ap (cond (any noN) 1) (asked 2 noD _ ∙ ap (cond (any noD) 2) (asked 3 far 0))
+
+-- and those of the ends
+abbrev pub moves : Ray → Side → Bool
+moves r o = moving (leg r o)
+
+module _ (m : Limits) (r : Ray) where
+  abbrev noP : Side → Bool
+  noP o = not (inside m (leg r o .p))
+
+  abbrev noQ : Side → Bool
+  noQ o = not (inside m (leg r o .q))
+
+  abbrev pub out : Side → Bool
+  out o = noP o || noQ o
+
+  pub ends-are : first (endRows m r) ≡ cond (any out) 5 (cond (not (any (moves r))) 6 0)
+  ends-are =
+      either 5 (noP X) (noQ X) _
+      ∙ ap (cond (out X) 5) (either 5 (noP Y) (noQ Y) _ ∙ ap (cond (out Y) 5) (either 5 (noP Z) (noQ Z) _))
+      ∙ asked 5 out _
+
 module _ (m : Limits) where
-  -- the codes by tests on some axis
-  abbrev noN : Axis → Bool
-  noN a = beyond (m .n) (a .n)
-
-  abbrev noD : Axis → Bool
-  noD a = beyond (m .d) (a .d)
-
-  pub grid-are : (g : Grid) → first (gridRows m g) ≡ cond (some noN (axes g)) 1 (cond (some noD (axes g)) 2 (cond (some (planesOut m) (axes g)) 3 0))
-  grid-are g =
-      asked 1 noN (axes g) (each 2 noD (axes g) ++ each 3 (planesOut m) (axes g))
-      ∙ ap (cond (some noN (axes g)) 1)
-      (asked 2 noD (axes g) (each 3 (planesOut m) (axes g)) ∙ ap (cond (some noD (axes g)) 2) (asked 3 (planesOut m) (axes g) []))
-
-  pub ends-are : (r : Ray) → first (endRows m r) ≡ cond (some (λ c. not (inside m c)) (ends r)) 5 (cond (not (some moving (legs r))) 6 0)
-  ends-are r = asked 5 (λ c. not (inside m c)) (ends r) (row 6 (not (some moving (legs r))) ∷ [])
-
   pub axes-ok : (g : Grid) → first (gridRows m g) ≡ 0 → (o : Side) → AxisOk m (axisOf g o)
   axes-ok g h X = let o = off (gridRows m g) refl h in axis-ok m (g .x) (o .0) (o .1 .1 .1 .0) (o .1 .1 .1 .1 .1 .1 .0)
   axes-ok g h Y = let o = off (gridRows m g) refl h in axis-ok m (g .y) (o .1 .0) (o .1 .1 .1 .1 .0) (o .1 .1 .1 .1 .1 .1 .1 .0)

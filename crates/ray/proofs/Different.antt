@@ -13,7 +13,7 @@ use Rattle.axis.specs.Leg.{moving, run}
 use Rattle.axis.proofs.Flag.{and-left, and-right}
 use Rattle.ray.specs.declared.Ray.{Ray}
 use Rattle.ray.specs.Length.{Side, X, Y, Z, leg, dOf, rest, Volume, volume, array, start, stop, total, crosses}
-use Rattle.ray.proofs.Tests.{tested, between-means, means-between}
+use Rattle.ray.proofs.Tests.{tested, any-by, between-means, means-between}
 use Rattle.ray.proofs.Bench.{grid, ray}
 
 -- α of a plane, times D
@@ -43,11 +43,6 @@ unfolding total crosses some crossedAt differentOf
 bench-alphas = (refl, refl)
 
 -- ---- what the tests decide
-one-of : (b : Side → Bool) (s : Side) → b s ≡ true → (b X || (b Y || b Z)) ≡ true
-one-of b X h = rw h refl
-one-of b Y h = rw h (or-true (b X))
-one-of b Z h = rw (h, or-true (b Y)) (or-true (b X))
-
 module _ (test : ℕ → Bool) where
   some-yes : (n i : ℕ) → i < n → test i ≡ true → some test n ≡ true
   unfolding some
@@ -77,7 +72,7 @@ module _ (v : Volume) (r : Ray) (s : Side) (i : ℕ) where
 module _ (v : Volume) (r : Ray) (x : ℕ) where
   pub crossed-yes : (s : Side) (i : ℕ) → i < v s .n + 1 → crosses v r s i ≡ true → alphaOf v r s i ≡ x → crossedAt v r x ≡ true
   unfolding crossedAt
-  crossed-yes s i h c e = one-of (λ o. some (crossesAt v r x o) (v o .n + 1)) s (some-yes (crossesAt v r x s) (v s .n + 1) i h (rw (c, eq-eqb (alphaOf v r s i) x e) refl))
+  crossed-yes s i h c e = any-by (λ o. some (crossesAt v r x o) (v o .n + 1)) s (some-yes (crossesAt v r x s) (v s .n + 1) i h (rw (c, eq-eqb (alphaOf v r s i) x e) refl))
 
   pub crossed-no : ((s : Side) (i : ℕ) → i < v s .n + 1 → crosses v r s i ≡ true → alphaOf v r s i ≡ x → ⊥) → crossedAt v r x ≡ false
   unfolding crossedAt

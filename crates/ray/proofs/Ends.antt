@@ -1,65 +1,40 @@
 -- Whether a ray's ends are accepted: turned round as it is, and each piece of an accepted ray. Assumes nothing.
 use mathlib.Core.Path.{_≡_, refl, sym, ap₂, _∙_}
-use mathlib.Core.Bool.{Bool, true, false, not, _||_, cond}
+use mathlib.Core.Bool.{Bool, true, false, not, cond, or-comm}
 use mathlib.Core.Logic.{⊎-elim}
 use lib.IntN.{ℤ, pos, negℤ}
 use lib.Signed.{leZ}
 use borrow.Author.Tests.{not-false}
-use Rattle.axis.specs.Leg.{Leg, moving}
+use Rattle.axis.specs.Leg.{moving}
 use Rattle.axis.specs.declared.Limits.{Limits}
-use Rattle.axis.specs.Codes.{inside, some, first}
-use Rattle.axis.proofs.Flag.{and-left, and-right, or-none}
+use Rattle.axis.specs.Codes.{inside, first}
+use Rattle.axis.proofs.Flag.{and-left, and-right}
 use Rattle.axis.proofs.Table.{off}
 use Rattle.ray.specs.declared.End.{End}
 use Rattle.ray.specs.declared.Ray.{Ray}
 use Rattle.ray.specs.Length.{Side, X, Y, Z, leg}
-use Rattle.ray.specs.Codes.{ends, legs, endRows}
-use Rattle.ray.proofs.Accepted.{ends-are, ends-inside}
+use Rattle.ray.specs.Codes.{endRows}
+use Rattle.ray.proofs.Tests.{any, any-by, any-of}
+use Rattle.ray.proofs.Accepted.{out, moves, ends-are, ends-inside}
 use Rattle.ray.proofs.Told.{le-through}
 use Rattle.ray.proofs.CutLeg.{ordered}
 use Rattle.ray.proofs.Turned.{turned, moving-turned}
 use Rattle.ray.proofs.CutBox.{coordinate, Between, cut, near, far, moving-near, moving-far}
 
--- ---- a test on some leg
-
-or-true : (a : Bool) {b : Bool} → b ≡ true → (a || b) ≡ true
-or-true true h = refl
-or-true false h = h
-
-or-swap : (a b : Bool) {c d : Bool} → c ≡ d → (a || (b || c)) ≡ (b || (a || d))
-or-swap true true h = refl
-or-swap true false h = refl
-or-swap false true h = refl
-or-swap false false h = h
-
-module _ (test : Leg → Bool) (r : Ray) where
-  some-leg : some test (legs r) ≡ true → (s : Side) × (test (leg r s) ≡ true)
-  some-leg h = go (test (leg r X)) refl (test (leg r Y)) refl h
-    where
-      go : (a : Bool) → test (leg r X) ≡ a → (b : Bool) → test (leg r Y) ≡ b → (a || (b || (test (leg r Z) || false))) ≡ true → (s : Side) × (test (leg r s) ≡ true)
-      go true ea b eb h = (X, ea)
-      go false ea true eb h = (Y, eb)
-      go false ea false eb h = (Z, sym (or-none (test (leg r Z))) ∙ h)
-
-  one-leg : (s : Side) → test (leg r s) ≡ true → some test (legs r) ≡ true
-  one-leg X h = rw h
-  one-leg Y h = or-true (test (leg r X)) (rw h)
-  one-leg Z h = or-true (test (leg r X)) (or-true (test (leg r Y)) (rw h))
-
--- ---- turned round, and cut
-
 module _ (lim : Limits) where
-  abbrev out : ℤ → Bool
-  out c = not (inside lim c)
-
   pub ends-turned : (r : Ray) → first (endRows lim (turned r)) ≡ first (endRows lim r)
-  ends-turned r = ends-are lim (turned r) ∙ ap₂ (λ (a b : Bool). cond a 5 (cond (not b) 6 0)) swapped moves ∙ sym (ends-are lim r)
+  ends-turned r = ends-are lim (turned r) ∙ ap₂ (λ (a b : Bool). cond a 5 (cond (not b) 6 0)) outs moved ∙ sym (ends-are lim r)
     where
-      swapped : some out (ends (turned r)) ≡ some out (ends r)
-      swapped = or-swap (out (r .q .x)) (out (r .p .x)) (or-swap (out (r .q .y)) (out (r .p .y)) (or-swap (out (r .q .z)) (out (r .p .z)) refl))
+      swapped : (s : Side) → out lim (turned r) s ≡ out lim r s
+      swapped X = or-comm (not (inside lim (r .q .x))) _
+      swapped Y = or-comm (not (inside lim (r .q .y))) _
+      swapped Z = or-comm (not (inside lim (r .q .z))) _
 
-      moves : some moving (legs (turned r)) ≡ some moving (legs r)
-      moves = rw (moving-turned r X, moving-turned r Y, moving-turned r Z)
+      outs : any (out lim (turned r)) ≡ any (out lim r)
+      outs = rw (swapped X, swapped Y, swapped Z)
+
+      moved : any (moves (turned r)) ≡ any (moves r)
+      moved = rw (moving-turned r X, moving-turned r Y, moving-turned r Z)
 
   within : (x y z : ℤ) → inside lim x ≡ true → inside lim z ≡ true → leZ x y ≡ true → leZ y z ≡ true → inside lim y ≡ true
   within x y z hx hz a b =
@@ -71,7 +46,7 @@ module _ (lim : Limits) where
   module _ (r : Ray) (accepted : first (endRows lim r) ≡ 0) where
     -- an accepted ray moves on some axis
     pub moves-on : (s : Side) × (moving (leg r s) ≡ true)
-    moves-on = some-leg moving r (not-false _ (off (endRows lim r) refl accepted .1 .1 .1 .1 .1 .1 .0))
+    moves-on = any-of (moves r) (not-false _ (off (endRows lim r) refl accepted .1 .1 .1 .1 .1 .1 .0))
 
     p-inside : (s : Side) → inside lim (leg r s .p) ≡ true
     p-inside s = ends-inside lim r accepted s .0
@@ -87,9 +62,9 @@ module _ (lim : Limits) where
           (λ h. within (leg r s .q) (coordinate m s) (leg r s .p) (q-inside s) (p-inside s) (h .0) (h .1))
           (ordered (cut r m between s))
 
-      moving-piece : (t : Ray) → some out (ends t) ≡ false → ((s : Side) → moving (leg t s) ≡ moving (leg r s)) → first (endRows lim t) ≡ 0
+      moving-piece : (t : Ray) → any (out lim t) ≡ false → ((s : Side) → moving (leg t s) ≡ moving (leg r s)) → first (endRows lim t) ≡ 0
       moving-piece t h k =
-          ends-are lim t ∙ ap₂ (λ (a b : Bool). cond a 5 (cond (not b) 6 0)) h (one-leg moving t (moves-on .0) (k (moves-on .0) ∙ moves-on .1))
+          ends-are lim t ∙ ap₂ (λ (a b : Bool). cond a 5 (cond (not b) 6 0)) h (any-by (moves t) (moves-on .0) (k (moves-on .0) ∙ moves-on .1))
 
       -- so the pieces are accepted
       pub ends-near : first (endRows lim (near r m)) ≡ 0

@@ -1,11 +1,12 @@
--- Tests that compute: by cases, when two are the same, and a number between two others. Assumes nothing.
+-- Tests that compute: by cases, when two are the same, of some side, and a number between two others. Assumes nothing.
 use Prim.Native.Nat.{ℕ, _<_}
 use mathlib.Core.Path.{_≡_, refl, sym}
-use mathlib.Core.Bool.{Bool, true, false, _&&_}
+use mathlib.Core.Bool.{Bool, true, false, _&&_, _||_, or-true}
 use mathlib.Core.Logic.{_⊎_, inl, inr}
 use lib.Dec.{ltb}
 use borrow.Author.Tests.{lt-ltb, ltb-true}
 use Rattle.axis.proofs.Flag.{and-left, and-right}
+use Rattle.ray.specs.Length.{Side, X, Y, Z}
 
 pub tested : (b : Bool) → (b ≡ true) ⊎ (b ≡ false)
 tested true = inl refl
@@ -15,6 +16,19 @@ pub same-test : (a b : Bool) → (a ≡ true → b ≡ true) → (b ≡ true →
 same-test true b f g = sym (f refl)
 same-test false true f g = g refl
 same-test false false f g = refl
+
+-- a test that holds of some side
+module _ (b : Side → Bool) where
+  abbrev pub any : Bool
+  any = b X || (b Y || b Z)
+
+  pub any-by : (s : Side) → b s ≡ true → any ≡ true
+  any-by X h = rw h refl
+  any-by Y h = rw h (or-true (b X))
+  any-by Z h = rw (h, or-true (b Y)) (or-true (b X))
+
+  pub any-of : any ≡ true → (s : Side) × (b s ≡ true)
+  any-of h = elim (tested (b X)) [ inl e ↦ (X, e) | inr e ↦ elim (tested (b Y)) [ inl f ↦ (Y, f) | inr f ↦ (Z, rw (e, f) at h) ] ]
 
 module _ (x y z : ℕ) where
   pub between-means : (ltb x y && ltb y z) ≡ true → (x < y) × (y < z)

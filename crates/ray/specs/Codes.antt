@@ -1,35 +1,26 @@
 -- RULES 6, the code table, as a table. Definitions only. Assumes nothing.
 use Prim.Native.Nat.{_+_}
-use mathlib.Core.Bool.{not}
+use mathlib.Core.Bool.{not, _||_}
 use mathlib.Core.List.{List, [], _∷_, _++_}
-use lib.IntN.{ℤ}
 use lib.Dec.{ltb, eqb}
 use lib.ListN.{length}
-use Rattle.axis.specs.declared.Axis.{Axis}
-use Rattle.axis.specs.Leg.{Leg, moving}
+use Rattle.axis.specs.Leg.{moving}
 use Rattle.axis.specs.declared.Limits.{Limits}
-use Rattle.axis.specs.Codes.{inside, Row, row, some, each, axisRows}
+use Rattle.axis.specs.Codes.{inside, Row, row, each, axisRows}
 use Rattle.ray.specs.declared.Grid.{Grid}
 use Rattle.ray.specs.declared.Ray.{Ray}
 use Rattle.ray.specs.declared.Lent.{Lent}
 use Rattle.ray.specs.Length.{X, Y, Z, leg, volume, count, listOf}
 
--- RULES 6: what a code is asked of in turn: the axes; the coordinates of both ends, axis by axis; the legs
-abbrev pub axes : Grid → List Axis
-axes g = g .x ∷ g .y ∷ g .z ∷ []
-
-abbrev pub ends : Ray → List ℤ
-ends r = r .p .x ∷ r .q .x ∷ r .p .y ∷ r .q .y ∷ r .p .z ∷ r .q .z ∷ []
-
-abbrev pub legs : Ray → List Leg
-legs r = leg r X ∷ leg r Y ∷ leg r Z ∷ []
-
+-- RULES 6: 1, 2 and 3, each asked of x, y and z
 abbrev pub gridRows : Limits → Grid → List Row
-gridRows m g = axisRows m (axes g)
+gridRows m g = axisRows m (g .x ∷ g .y ∷ g .z ∷ [])
 
--- RULES 6: 5, an end beyond the limits on some axis; 6, no axis on which the ends differ
+-- RULES 6: 5, an end beyond the limits, P before Q on an axis; 6, no axis on which the ends differ
 abbrev pub endRows : Limits → Ray → List Row
-endRows m r = each 5 (λ c. not (inside m c)) (ends r) ++ (row 6 (not (some moving (legs r))) ∷ [])
+endRows m r =
+    each 5 (λ c. not (inside m c)) (r .p .x ∷ r .q .x ∷ r .p .y ∷ r .q .y ∷ r .p .z ∷ r .q .z ∷ [])
+    ++ (row 6 (not (moving (leg r X) || (moving (leg r Y) || moving (leg r Z)))) ∷ [])
 
 -- RULES 6, a trace, codes 1 to 7: those on the grid, 4, those on the ends, 7; then 8 with `filled` places taken (RULES 7)
 abbrev pub frontRows : Limits → Grid → Ray → Lent → List Row

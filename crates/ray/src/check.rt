@@ -1,21 +1,22 @@
 // The codes that refuse a grid and the ends of a ray, checked in rising order.
 ghost use mathlib.Core.Path.{_≡_};
-ghost use mathlib.Core.Bool.{false, _||_, not};
+ghost use mathlib.Core.Bool.{Bool, _||_, not};
 ghost use Rattle.axis.specs.Leg.{moving};
-ghost use Rattle.axis.specs.Codes.{inside, some, beyond, planesOut, first};
-ghost use Rattle.ray.specs.Codes.{axes, ends, legs, gridRows, endRows};
+ghost use Rattle.axis.specs.Codes.{inside, beyond, planesOut, first};
+ghost use Rattle.ray.specs.Length.{Side, X, Y, Z, leg};
+ghost use Rattle.ray.specs.Codes.{gridRows, endRows};
 use crate::Grid;
 use crate::Ray;
 use axis::Limits;
 
 fn one_of(x: bool, y: bool, z: bool) -> bool
-    ensures { λ r. ⌜ r ≡ (x || (y || (z || false))) ⌝ }
+    ensures { λ r. ⌜ r ≡ (x || (y || z)) ⌝ }
 {
     if x { true } else { if y { true } else { z } }
 }
 
 fn counts_out(m: Limits, g: Grid) -> bool
-    ensures { λ r. ⌜ r ≡ some (λ a. beyond (m .n) (a .n)) (axes g) ⌝ }
+    ensures { λ r. ⌜ r ≡ (beyond (m .n) (g .x .n) || (beyond (m .n) (g .y .n) || beyond (m .n) (g .z .n))) ⌝ }
 {
     let x = g.x;
     let y = g.y;
@@ -24,7 +25,7 @@ fn counts_out(m: Limits, g: Grid) -> bool
 }
 
 fn spacings_out(m: Limits, g: Grid) -> bool
-    ensures { λ r. ⌜ r ≡ some (λ a. beyond (m .d) (a .d)) (axes g) ⌝ }
+    ensures { λ r. ⌜ r ≡ (beyond (m .d) (g .x .d) || (beyond (m .d) (g .y .d) || beyond (m .d) (g .z .d))) ⌝ }
 {
     let x = g.x;
     let y = g.y;
@@ -33,7 +34,7 @@ fn spacings_out(m: Limits, g: Grid) -> bool
 }
 
 fn planes_out(m: Limits, g: Grid) -> bool
-    ensures { λ r. ⌜ r ≡ some (planesOut m) (axes g) ⌝ }
+    ensures { λ r. ⌜ r ≡ (planesOut m (g .x) || (planesOut m (g .y) || planesOut m (g .z))) ⌝ }
 {
     let x = g.x;
     let y = g.y;
@@ -71,7 +72,7 @@ fn leg_moves(p: i32, q: i32) -> bool
 }
 
 fn ends_out(m: Limits, r: Ray) -> bool
-    ensures { λ t. ⌜ t ≡ some (λ c. not (inside m c)) (ends r) ⌝ }
+    ensures { λ t. ⌜ t ≡ (let out : Side → Bool = λ s. not (inside m (leg r s .p)) || not (inside m (leg r s .q)) in out X || (out Y || out Z)) ⌝ }
 {
     let p = r.p;
     let q = r.q;
@@ -83,7 +84,7 @@ fn ends_out(m: Limits, r: Ray) -> bool
 }
 
 fn ends_differ(r: Ray) -> bool
-    ensures { λ t. ⌜ t ≡ some moving (legs r) ⌝ }
+    ensures { λ t. ⌜ t ≡ (moving (leg r X) || (moving (leg r Y) || moving (leg r Z))) ⌝ }
 {
     let p = r.p;
     let q = r.q;

@@ -1,5 +1,4 @@
-use mathlib.Core.Path.{sym}
-use Rattle.axis.proofs.Flag.{or-none}
+use mathlib.Core.Path.{refl}
 use borrow.Author.Needs.{needs}
 use Rattle.ray.proofs.check.one_of.Statement.{statement}
 use Rattle.ray.proofs.check.one_of.Tie as tie
@@ -11,7 +10,7 @@ returns-2 : tie.Need-returns-2
 returns-2 c = search needs
 
 returns-3 : tie.Need-returns-3
-returns-3 c = rw (c .before .if1 .left, c .if2 .left) (sym (or-none (c .before .before .args .z)))
+returns-3 c = rw (c .before .if1 .left, c .if2 .left) refl
 
 pub one-of-spec : {M : Type 1} → statement M
 one-of-spec = tie.close (tie.spec returns returns-2 returns-3)
