@@ -3,7 +3,7 @@ from __future__ import annotations
 
 from dataclasses import replace
 from random import Random
-from typing import Iterator
+from typing import Iterator, Sequence
 
 import oracle
 import scenes
@@ -101,11 +101,11 @@ def spoiled(dice: Random, call: Call, code: int) -> Call:
     return call._replace(lent=call.lent._replace(answer=dice.choice([0, 1, 5, 7, 3, 12])))
 
 
-def of_kind(dice: Random, kind: str) -> Call:
+def of_kind(dice: Random, kind: str, faces: Sequence[int] = ()) -> Call:
     """An accepted call."""
     drawing = kind in ("place", "points")
     grid = scenes.grid(dice, dice.choice([1, 2, 4, 6, 9, 12] + ([COUNT_MAX] if drawing else [])))
-    ray = scenes.ray(dice, grid)
+    ray = scenes.ray(dice, grid, faces)
     if drawing:
         return drawn(dice, kind, grid, ray)
     call = accepted(dice, grid, ray, densities(dice, grid))
@@ -119,6 +119,14 @@ def random_calls(dice: Random, many: int, kinds: list[str]) -> Iterator[Call]:
         for _ in range(dice.choice([0, 0, 0, 1, 1, 2, 3])):
             call = spoiled(dice, call, dice.choice(CODES[call.kind]))
         yield call
+
+
+def face_calls(dice: Random, many: int) -> Iterator[Call]:
+    """Rays that stand still in far faces, by every kind of call; some with lists that may be too short."""
+    for _ in range(many):
+        call = of_kind(dice, dice.choice(list(CODES)), scenes.far_faces(dice))
+        short = 8 in CODES[call.kind] and dice.random() < 0.3
+        yield spoiled(dice, call, 8) if short else call
 
 
 def drawing_calls(dice: Random, many: int) -> Iterator[Call]:

@@ -19,8 +19,10 @@ from typing import NamedTuple
 
 import asking
 import chaining
+import facing
 import families
 import machine
+import scenes
 from differing import differences
 from lending import Call
 from stating import stated
@@ -29,13 +31,17 @@ from tally import Tally
 LEAST = 20  # times that each answer is to be met
 MARGIN = 64  # bytes on either side of a list
 PROCESSES = 2
+CUT = "cut and turned"
+FACED = 60  # times that each sort of ray made to lie in far faces is to be met; of two faces luck gives a dozen
 
 ANSWERS = [f"{kind} {told}" for kind, codes in asking.CODES.items() for told in ["hit", "miss", *codes]] + [
     *(f"append {told}, partly filled" for told in ("hit", "miss", 7, 8)),
     *(f"append {told}" for told in ("7, overfull", "8, overfull", "8, overfull on a miss")),
 ]
+FACES = [name for kind in [*asking.CODES, CUT] for name in facing.names(kind)]
+SHORT = [name for kind in ("trace 8", "append 8") for name in facing.names(kind)]  # in far faces, with too few places
 
-RUNS = {"large": 2, "families": 2, "bench": 1, "random": 10, "appends": 2, "chains": 2, "drawing": 2}
+RUNS = {"large": 2, "families": 1, "faced families": 1, "bench": 1, "random": 8, "appends": 2, "chains": 2, "drawing": 2, "faces": 2}
 
 
 class Run(NamedTuple):
@@ -71,6 +77,8 @@ def compared(run: Run, calls: list[Call], margin: int = MARGIN, front: list[str]
         start += len(whole)
         found.append(came)
         tally.codes[wanted.told] += 1
+        if run.sort == "faces":
+            tally.codes.update(facing.told(f"{call.kind} {wanted.code}" if wanted.code else call.kind, call.grid, call.ray))
         if came == whole:
             tally.check(True, "")
         else:
@@ -80,22 +88,25 @@ def compared(run: Run, calls: list[Call], margin: int = MARGIN, front: list[str]
 
 
 def turned_and_cut(run: Run, many: int) -> Tally:
-    dice = run.dice()
-    told = [families.family(dice) for _ in range(many)]
+    dice, faced = run.dice(), run.sort == "faced families"
+    told = [families.family(dice, scenes.far_faces(dice) if faced else ()) for _ in range(many)]
     calls = [call for four, _ in told for call in four]
     tally, memory = compared(run, calls)
     if tally.failed == 0:
         read = [families.listed(call, block, MARGIN) for call, block in zip(calls, memory)]
         for at, (_, cut) in enumerate(told):
             whole, turned, first, second = read[4 * at : 4 * at + 4]
+            call = calls[4 * at]
+            if faced:
+                tally.codes.update(facing.told(CUT, call.grid, call.ray))
             good = families.agree(whole, turned, first, second, cut)
-            tally.check(good, run.told(f"turned or cut at {cut}", 4 * at, calls[4 * at]))
+            tally.check(good, run.told(f"turned or cut at {cut}", 4 * at, call))
     return tally
 
 
 def made(run: Run) -> Tally:
     dice = run.dice()
-    if run.sort == "families":
+    if run.sort.endswith("families"):
         return turned_and_cut(run, 800)
     if run.sort == "valgrind":
         quiet = ["valgrind", "-q", "--error-exitcode=9"]
@@ -107,6 +118,7 @@ def made(run: Run) -> Tally:
         "appends": lambda: asking.random_calls(dice, 2500, ["append"]),
         "chains": lambda: chaining.chains(dice, 500),
         "drawing": lambda: asking.drawing_calls(dice, 2500),
+        "faces": lambda: asking.face_calls(dice, 2500),
     }
     return compared(run, list(calls[run.sort]()))[0]
 
@@ -125,8 +137,10 @@ def main() -> None:
     with ProcessPoolExecutor(PROCESSES) as pool:
         for one in [pool.submit(made, Run(driver, sort, number, asked.seed, asked.again)) for sort, number in runs]:
             tally.add(one.result())
-    print(f"calls: seed {asked.seed}, {sum(tally.codes.values())} calls")
+    print(f"calls: seed {asked.seed}, {sum(tally.codes[told] for told in ANSWERS)} calls")
     tally.table(ANSWERS, LEAST)
+    tally.table(FACES, FACED)
+    tally.table(SHORT, LEAST)
     tally.close()
 
 

@@ -54,6 +54,12 @@ def rays(dice: Random, grid: Grid, most: int) -> list[Ray]:
     return found
 
 
+def faces(dice: Random) -> bytes:
+    """Rays that stand still in far faces."""
+    grid = scenes.grid(dice, dice.choice([1, 2, 3, 5, 8]))
+    return joined(lines(grid, fill(dice, grid), [scenes.ray(dice, grid, scenes.far_faces(dice)) for _ in range(10)]))
+
+
 def plain(dice: Random) -> Lines:
     grid = scenes.grid(dice, dice.choice([1, 2, 3, 5, 8]))
     return lines(grid, fill(dice, grid), rays(dice, grid, 6))

@@ -37,7 +37,7 @@ def main() -> None:
     tally = Tally()
     jobs(tally)
     wall(tally)
-    print("examples: two text jobs and the C example")
+    print("examples: three text jobs and the C example")
     tally.close()
 
 

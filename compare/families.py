@@ -4,7 +4,7 @@ from __future__ import annotations
 import struct
 from fractions import Fraction
 from random import Random
-from typing import NamedTuple
+from typing import NamedTuple, Sequence
 
 import asking
 import oracle
@@ -53,10 +53,10 @@ def agree(whole: Listed, turned: Listed, first: Listed, second: Listed, cut: Fra
     )
 
 
-def family(dice: Random) -> tuple[list[Call], Fraction]:
+def family(dice: Random, faces: Sequence[int] = ()) -> tuple[list[Call], Fraction]:
     """A ray whole, turned round, and its two pieces; and where it was cut."""
     grid = scenes.grid(dice, dice.choice([2, 4, 7, 11]))
-    p, m, q = scenes.pieces(dice, grid)
+    p, m, q = scenes.pieces(dice, grid, faces)
     of = asking.densities(dice, grid)
     calls = [asking.accepted(dice, grid, ray, of) for ray in (Ray(p, q), Ray(q, p), Ray(p, m), Ray(m, q))]
     return calls, next(Fraction(m[a] - p[a], q[a] - p[a]) for a in oracle.moving(Ray(p, q)))

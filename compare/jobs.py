@@ -13,11 +13,14 @@ from random import Random
 from typing import Iterator, NamedTuple
 
 import damage
+import facing
 import machine
 import oracle
+from oracle import Axis, Ray
 from tally import Tally
 
-LEAST = 20  # times that each refusal is to be met
+LEAST = 20  # times that each answer is to be met
+FACED = 60  # times that each sort of ray made to lie in far faces is to be met
 LONGEST = 60  # seconds that one job may take
 THREADS = 2
 
@@ -54,6 +57,7 @@ def cases(dice: Random) -> Iterator[Case]:
         damage.long_line: 200,
         damage.limits: 300,
         damage.refused_rays: 100,
+        damage.faces: 100,
     }.items():
         for _ in range(times):
             yield Case(make.__name__, make(dice))
@@ -96,6 +100,21 @@ def run(command: list[str], case: Case) -> Ended:
 # ---- comparing
 
 
+def numbers(text: bytes) -> list[int]:
+    return [int(field) for field in text.split(b"\t")[1:]]
+
+
+def in_faces(job: bytes) -> Iterator[str]:
+    """The sorts of far faces that the rays of a whole job stand still in."""
+    head, *rest = job.splitlines()
+    n = numbers(head)
+    x, y, z = (Axis(n[a], n[a + 3], n[a + 6]) for a in range(3))
+    for text in rest:
+        if text.startswith(b"RAY"):
+            px, py, pz, qx, qy, qz = numbers(text)
+            yield from facing.told("RAY", (x, y, z), Ray((px, py, pz), (qx, qy, qz)))
+
+
 def met(job: bytes, lines: list[bytes]) -> Iterator[str]:
     """What answers an output has, by the names of the table."""
     for text in lines:
@@ -129,9 +148,12 @@ def main() -> None:
         for number, (case, found) in enumerate(zip(listed, pool.map(lambda case: run(command, case), listed))):
             stated = oracle.run(case.job)
             tally.codes.update(met(case.job, stated.splitlines()))
+            if case.kind == "faces":
+                tally.codes.update(in_faces(case.job))
             good = found == Ended(stated, b"", 0)
             tally.check(good, "" if good else differ(number, case, stated, found))
     tally.table(ANSWERS, LEAST)
+    tally.table(facing.names("RAY"), FACED)
     tally.close()
 
 

@@ -44,6 +44,9 @@ class Axis(NamedTuple):
     def plane(self, i: int) -> int:
         return self.b + i * self.d
 
+    def far(self) -> int:
+        return self.plane(self.n)
+
 
 class Ray(NamedTuple):
     p: Point
@@ -112,10 +115,14 @@ def alpha(ray: Ray, a: int, c: int) -> Fraction:
     return Fraction(c - ray.p[a], ray.q[a] - ray.p[a])
 
 
-def between(ray: Ray, a: int, low: int, high: int) -> Stretch:
-    """What two planes of axis a leave of the ray. A still axis that is held takes nothing away."""
+def between(ray: Ray, a: int, axis: Axis, i: int, j: int) -> Stretch:
+    """What planes i and j of axis a leave of the ray. A still axis that is held takes nothing away.
+
+    The lower plane is held, and the upper one where it is the far plane (RULES 2).
+    """
+    low, high = axis.plane(i), axis.plane(j)
     if ray.p[a] == ray.q[a]:
-        return (ZERO, ONE) if low <= ray.p[a] < high else None
+        return (ZERO, ONE) if low <= ray.p[a] < high or ray.p[a] == high == axis.far() else None
     one, other = alpha(ray, a, low), alpha(ray, a, high)
     return min(one, other), max(one, other)
 
@@ -130,7 +137,7 @@ def within(x: Stretch, y: Stretch, z: Stretch) -> Stretch:
 
 def window(grid: Grid, ray: Ray) -> Stretch:
     """αmin and αmax, None on a miss."""
-    x, y, z = (between(ray, a, axis.plane(0), axis.plane(axis.n)) for a, axis in enumerate(grid))
+    x, y, z = (between(ray, a, axis, 0, axis.n) for a, axis in enumerate(grid))
     return within(x, y, z)
 
 
@@ -151,7 +158,7 @@ def part(ray: Ray, length: Fraction) -> int:
 
 def by_voxels(grid: Grid, ray: Ray) -> list[Entry]:
     """The voxels of a length above zero, in the ray's order, each found by itself."""
-    slabs = [[between(ray, a, axis.plane(i), axis.plane(i + 1)) for i in range(axis.n)] for a, axis in enumerate(grid)]
+    slabs = [[between(ray, a, axis, i, i + 1) for i in range(axis.n)] for a, axis in enumerate(grid)]
     found: list[tuple[Fraction, int, int]] = []
     number = 0
     for z in slabs[2]:
@@ -162,6 +169,11 @@ def by_voxels(grid: Grid, ray: Ray) -> list[Entry]:
                     found.append((inside[0], number, part(ray, inside[1] - inside[0])))
                 number += 1
     return [(voxel, share) for _, voxel, share in sorted(found)]
+
+
+def index(axis: Axis, c: Fraction) -> int:
+    """The index of the voxel that a coordinate lies in, below 0 or above n - 1 where it lies in none."""
+    return axis.n - 1 if c == axis.far() else (c - axis.b) // axis.d
 
 
 def by_planes(grid: Grid, ray: Ray) -> list[Entry]:
@@ -176,7 +188,7 @@ def by_planes(grid: Grid, ray: Ray) -> list[Entry]:
     found: list[Entry] = []
     for enter, leave in zip(marks, marks[1:]):
         middle = (enter + leave) / 2
-        i, j, k = ((p + middle * (q - p) - axis.b) // axis.d for axis, p, q in zip(grid, ray.p, ray.q))
+        i, j, k = (index(axis, p + middle * (q - p)) for axis, p, q in zip(grid, ray.p, ray.q))
         if 0 <= i < grid[0].n and 0 <= j < grid[1].n and 0 <= k < grid[2].n:
             found.append((i + grid[0].n * (j + grid[1].n * k), part(ray, leave - enter)))
     return found
@@ -199,7 +211,7 @@ def grid_code(grid: Grid) -> int:
         return 1
     if any(not 1 <= axis.d <= SPACING_MAX for axis in grid):
         return 2
-    if any(abs(axis.b) > COORD_MAX or axis.plane(axis.n) > COORD_MAX for axis in grid):
+    if any(abs(axis.b) > COORD_MAX or axis.far() > COORD_MAX for axis in grid):
         return 3
     return 0
 

@@ -7,6 +7,7 @@ from __future__ import annotations
 
 from random import Random
 
+import facing
 import machine
 import scenes
 from differing import differences
@@ -18,6 +19,8 @@ from stating import stated
 from tally import Tally
 
 SCENES = 4000
+FACES = 1000
+FACED = 100  # times that each sort of ray made to lie in far faces is to be met
 
 BENCH: Grid = (Axis(3, 10, 0), Axis(2, 10, 0), Axis(1, 10, 0))
 DENSITIES = [1, 2, 3, 4, 5, 6]
@@ -29,7 +32,7 @@ RAYS: dict[str, tuple[Ray, list[Entry], int, int, int]] = {
     "C": (Ray((0, 0, 5), (30, 20, 5)), [(0, 200), (1, 100), (4, 100), (5, 200)], 3, 600, 2100),
     "D": (Ray((0, 0, 5), (20, 20, 5)), [(0, 200), (4, 200)], 2, 400, 1200),
     "E": (Ray((10, -10, 5), (10, 30, 5)), [(1, 10), (4, 10)], 1, 40, 70),
-    "F": (Ray((30, -10, 5), (30, 30, 5)), [], 0, 40, 0),
+    "F": (Ray((30, -10, 5), (30, 30, 5)), [(2, 10), (5, 10)], 1, 40, 90),
     "G": (Ray((-10, 10, 5), (10, -10, 5)), [], 0, 400, 0),
     "H": (Ray((12, 3, 5), (17, 3, 5)), [(1, 5)], 0, 5, 10),
     "I": (Ray((5, 5, 5), (10, 5, 5)), [(0, 5)], 0, 5, 5),
@@ -51,11 +54,13 @@ def figures(tally: Tally) -> None:
 
 
 def behind(tally: Tally) -> None:
-    """Ray C takes four places, and ray F, a miss, none."""
-    for name, room, filled, code in (("C", 6, 2, 0), ("C", 5, 2, 8), ("C", 2, 3, 8), ("F", 2, 2, 0), ("F", 2, 3, 8)):
+    """Ray C takes four places, ray F two, and ray G, a miss, none."""
+    for name, room, filled, code in (
+        ("C", 6, 2, 0), ("C", 5, 2, 8), ("C", 2, 3, 8), ("F", 4, 2, 0), ("F", 3, 2, 8), ("G", 2, 2, 0), ("G", 2, 3, 8),
+    ):  # fmt: skip
         found = append(BENCH, RAYS[name][0], DENSITIES, Lent(room, room), filled).code
         tally.check(found == code, f"ray {name} behind {filled} of {room} places: code {found}")
-    found = append(BENCH, RAYS["F"][0], DENSITIES, Lent(2, 3), 9).code
+    found = append(BENCH, RAYS["G"][0], DENSITIES, Lent(2, 3), 9).code
     tally.check(found == 7, f"lists of different length with more places filled than either has: code {found}")
 
 
@@ -95,7 +100,7 @@ def consistent(grid: Grid, ray: Ray) -> bool:
     found = answer(grid, ray, [1] * (grid[0].n * grid[1].n * grid[2].n))
     planes, inside = crossed(grid, ray), window(grid, ray)
     most = sum(axis.n for axis in grid) - 2
-    held = all(axis.b <= c <= axis.plane(axis.n) for at in points(grid, ray)[1] for axis, c in zip(grid, at))
+    held = all(axis.b <= c <= axis.far() for at in points(grid, ray)[1] for axis, c in zip(grid, at))
     return (
         by_voxels(grid, ray) == by_planes(grid, ray)
         and found.total == found.span
@@ -112,11 +117,15 @@ def main() -> None:
     limits(tally)
     behind(tally)
     named(tally)
-    for _ in range(SCENES):
+    for at in range(SCENES + FACES):
+        faces = scenes.far_faces(dice) if at < FACES else []
         grid = scenes.grid(dice, dice.choice([1, 2, 4, 7]))
-        ray = scenes.ray(dice, grid)
+        ray = scenes.ray(dice, grid, faces)
         tally.check(consistent(grid, ray), f"{grid} {ray}")
-    print(f"selftest: seed {seed}, {SCENES} scenes by both methods of the independent program")
+        if faces:
+            tally.codes.update(facing.told("scene", grid, ray))
+    print(f"selftest: seed {seed}, {SCENES} scenes and {FACES} in far faces by both methods of the independent program")
+    tally.table(facing.names("scene"), FACED)
     tally.close()
 
 

@@ -30,7 +30,7 @@ class Tally:
     def table(self, wanted: Iterable[str], least: int) -> None:
         """Prints how often each code was met, and fails where that is too rarely."""
         for code in wanted:
-            print(f"  {code:30}{self.codes[code]:7}")
+            print(f"  {code:36}{self.codes[code]:7}")
             self.check(self.codes[code] >= least, f"{code} was met {self.codes[code]} times, and {least} are asked for")
 
     def close(self) -> NoReturn:

@@ -57,8 +57,9 @@ int main(void)
 {
     static const int32_t left[3] = {-100, 105, 55}, right[3] = {500, 105, 55};
     static const int32_t low[3] = {-100, -50, 20}, high[3] = {500, 250, 80};
+    static const int32_t from[3] = {-100, 200, 55}, to[3] = {500, 200, 55};
     static const int32_t above[3] = {200, 100, 300}, beside[3] = {600, 100, 300};
     cast();
     return measure("straight through two walls", left, right) | measure("oblique", low, high) |
-           measure("over the casting", above, beside);
+           measure("along the far face", from, to) | measure("over the casting", above, beside);
 }

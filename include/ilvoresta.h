@@ -21,7 +21,8 @@ extern "C" {
 /* ---- The grid: nx, ny, nz, dx, dy, dz, bx, by, bz
  *
  * Each axis has n voxels of spacing d from its first plane b on. Plane i lies at b + i*d, i from 0 to
- * n. A voxel holds its lower plane and not its upper one, so the far face belongs to none.
+ * n. A voxel holds its lower plane and not its upper one, but the last voxel of an axis holds the far
+ * plane too: a ray that stands still in the near or the far face of the array is in the voxels there.
  *
  *   n  1 to ILVORESTA_COUNT_MAX
  *   d  1 to ILVORESTA_SPACING_MAX

@@ -52,10 +52,6 @@ abbrev pub checkedAxis : Limits → Axis → Checked
 checkedAxis m a = cond (eqb (axisCode m a) 0) (Fine a) (Refused (axisCode m a))
 
 -- RULES 6, the answer in numbers: a fine axis is 0 and its n, d, b, a refused one is its code and zeros
-pub record Told : Type 0 where
-  pub code : ℕ
-  pub axis : Axis
-
-abbrev pub told : Checked → Told
-told (Fine a) = record { code = 0; axis = a }
-told (Refused c) = record { code = c; axis = record { n = 0; d = 0; b = pos 0 } }
+abbrev pub told : Checked → ℕ × Axis
+told (Fine a) = (0, a)
+told (Refused c) = (c, record { n = 0; d = 0; b = pos 0 })

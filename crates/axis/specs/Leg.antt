@@ -3,6 +3,7 @@ use Prim.Native.Nat.{ℕ, _*_, min, max}
 use mathlib.Core.Bool.{Bool, _&&_, _||_, cond}
 use lib.IntN.{ℤ, pos, negsuc, natAbs, _+ℤ_, _-ℤ_}
 use lib.Signed.{ltZ, leZ}
+use lib.Dec.{eqb}
 use Rattle.axis.specs.declared.Axis.{Axis}
 
 -- what a ray meets of an axis: n voxels, and the places of its planes
@@ -35,16 +36,21 @@ natural (negsuc n) = 0
 abbrev pub run : Leg → ℤ → ℕ
 run l c = cond (ltZ (l .p) (l .q)) (natural (c -ℤ l .p)) (natural (l .p -ℤ c))
 
+-- RULES 2, boundary rule: a slab holds its lower plane, and its upper one where it is closed
 pub record Slab : Type 0 where
   pub lo : ℤ
   pub hi : ℤ
+  pub closed : Bool
 
--- RULES 2, boundary rule: a slab holds its lower plane and not its upper one. A moving axis is not asked.
+-- RULES 2, boundary rule: what lies between the planes i and j is closed where j is the axis' last plane
+abbrev pub slab : Planes → (i j : ℕ) → Slab
+slab a i j = record { lo = a .at i; hi = a .at j; closed = eqb j (a .n) }
+
+-- RULES 2: whether a still ray lies in a slab; a moving axis is not asked
 abbrev pub held : Leg → Slab → Bool
-held l s = moving l || (leZ (s .lo) (l .p) && ltZ (l .p) (s .hi))
+held l s = moving l || (leZ (s .lo) (l .p) && cond (s .closed) (leZ (l .p) (s .hi)) (ltZ (l .p) (s .hi)))
 
--- RULES 3: α times D at the lesser and at the greater plane of a moving axis, D being factor times rest; a still axis
--- leaves the ray whole, from 0 to D
+-- RULES 3: α times D, which is factor times rest, at the lesser and the greater plane; a still axis leaves the ray whole, from 0 to D
 abbrev pub enters : ℕ → Leg → Slab → ℕ
 enters rest l s = cond (moving l) (min (run l (s .lo)) (run l (s .hi)) * rest) 0
 

@@ -114,8 +114,8 @@ impl Axis {
 
     pub fn checked(n: u32, d: u32, b: i32) -> Checked
         ensures { λ r. ⌜ r ≡ checkedAxis tenths (record { n = n; d = d; b = b }) ⌝ }
-        ensures { λ r. ⌜ told r .code ≡ axisCode tenths (record { n = n; d = d; b = b }) ⌝ }
-        ensures { λ r. ⌜ told r .axis ≡ cond (eqb (told r .code) 0) (record { n = n; d = d; b = b }) (record { n = 0; d = 0; b = pos 0 }) ⌝ }
+        ensures { λ r. ⌜ told r .0 ≡ axisCode tenths (record { n = n; d = d; b = b }) ⌝ }
+        ensures { λ r. ⌜ told r .1 ≡ cond (eqb (told r .0) 0) (record { n = n; d = d; b = b }) (record { n = 0; d = 0; b = pos 0 }) ⌝ }
     {
         let a = Axis { n, d, b };
         let code = a.code(Axis::TENTHS);

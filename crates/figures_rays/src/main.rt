@@ -98,6 +98,30 @@ fn table() {
     bench(b"J", end(10, 5, 5), end(5, 5, 5));
 }
 
+// Still in the far plane of x and turned round; of z, which has one voxel; of x and y at once. Then with a place too few.
+fn far_faces() {
+    bench(b"F turned", end(30, 30, 5), end(30, -10, 5));
+    bench(b"far z", end(-10, 5, 10), end(40, 5, 10));
+    bench(b"far x and y", end(30, 20, -10), end(30, 20, 20));
+    let f = Ray {
+        p: end(30, -10, 5),
+        q: end(30, 30, 5),
+    };
+    let mut one = [9u32; 1];
+    let mut one_part = [99u64; 1];
+    say(
+        b"F in 1",
+        trace(
+            bench_grid(),
+            f,
+            &[1u16, 2, 3, 4, 5, 6],
+            &mut one,
+            &mut one_part,
+        ),
+    );
+    lists(&one, &one_part);
+}
+
 // n 8, d 4096, b -16384, all densities 65535, corner to corner.
 fn corners() {
     let a = axis_of(8, 4096, -16384);
@@ -154,17 +178,17 @@ fn room() {
 }
 
 fn missed() {
-    let f = Ray {
-        p: end(30, -10, 5),
-        q: end(30, 30, 5),
+    let g = Ray {
+        p: end(-10, 10, 5),
+        q: end(10, -10, 5),
     };
     let mut none = [0u32; 0];
     let mut none_parts = [0u64; 0];
     say(
-        b"F in 0",
+        b"G in 0",
         trace(
             bench_grid(),
-            f,
+            g,
             &[1u16, 2, 3, 4, 5, 6],
             &mut none,
             &mut none_parts,
@@ -269,24 +293,25 @@ fn missing_behind() {
     let six = [1u16, 2, 3, 4, 5, 6];
     let mut voxels = [9u32; 2];
     let mut parts = [99u64; 2];
-    let f = Ray {
-        p: end(30, -10, 5),
-        q: end(30, 30, 5),
+    let g = Ray {
+        p: end(-10, 10, 5),
+        q: end(10, -10, 5),
     };
     say(
-        b"append F at 2",
-        append(bench_grid(), f, &six, &mut voxels, &mut parts, 2),
+        b"append G at 2",
+        append(bench_grid(), g, &six, &mut voxels, &mut parts, 2),
     );
     lists(&voxels, &parts);
     say(
-        b"append F at 3",
-        append(bench_grid(), f, &six, &mut voxels, &mut parts, 3),
+        b"append G at 3",
+        append(bench_grid(), g, &six, &mut voxels, &mut parts, 3),
     );
     lists(&voxels, &parts);
 }
 
 fn main() {
     table();
+    far_faces();
     corners();
     room();
     missed();

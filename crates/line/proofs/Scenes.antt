@@ -1,10 +1,10 @@
 -- ray's definitions at a scene: the voxel that a tick is in, axis by axis. Assumes nothing.
 use Prim.Native.Nat.{ℕ, _+_, _-_, _<_}
 use mathlib.Core.Path.{_≡_, refl}
-use mathlib.Core.Bool.{Bool, true, false, _&&_, cond}
+use mathlib.Core.Bool.{Bool, true, false, cond}
 use native.Mathlib.Omega.{arith}
 use borrow.Author.Tests.{le-leb}
-use Rattle.axis.proofs.Flag.{and-left, and-right}
+use Rattle.ray.proofs.Tests.{all-of}
 use Rattle.ray.proofs.Planes.{Rise}
 use Rattle.ray.specs.declared.Ray.{Ray}
 use Rattle.ray.specs.Length.{Side, X, Y, Z, leg, rest, Volume, array, index, voxel, holds, start, stop, partOf}
@@ -13,12 +13,6 @@ use Rattle.line.specs.Scene.{legN, plane, line, volumeOf, rayOf, entersA
 use Rattle.ray.proofs.Way.{Way}
 use Rattle.line.proofs.Three.{each}
 use Rattle.line.proofs.Stretch.{plane-mono, wayOf}
-
--- a box is held on every side, or not at all
-pub all-held : (b : Side → Bool) → (b X && (b Y && b Z)) ≡ true → (o : Side) → b o ≡ true
-all-held b h X = and-left (b X) _ h
-all-held b h Y = and-left (b Y) _ (and-right (b X) _ h)
-all-held b h Z = and-right (b Y) _ (and-right (b X) _ h)
 
 module _ (s : Scene) where
   abbrev pub vol : Volume
@@ -69,7 +63,7 @@ module _ (s : Scene) where
     pub proper : start ray (voxel vol m) < stop ray (voxel vol m)
 
   met-by : (m : ℕ) (b : Bool) → holds ray (voxel vol m) ≡ b → 0 < cond b (stop ray (voxel vol m) - start ray (voxel vol m)) 0 → Met m
-  met-by m true e h = record { whole = all-held (λ o. heldAt (line s o) (index vol m o) (index vol m o + 1)) e; proper = omega arith }
+  met-by m true e h = record { whole = all-of (λ o. heldAt (line s o) (index vol m o) (index vol m o + 1)) e; proper = omega arith }
   met-by m false e h = absurd (omega arith)
 
   pub met : (m : ℕ) → 0 < partOf vol ray m → Met m

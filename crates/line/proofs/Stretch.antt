@@ -2,13 +2,15 @@
 -- times c, the rest of D. Of where planes lie only their order is asked. Assumes nothing.
 use Prim.Native.Nat.{ℕ, zero, suc, _+_, _-_, _*_, _≤_, _<_}
 use mathlib.Core.Path.{_≡_, refl, sym, ap, _∙_}
-use mathlib.Core.Bool.{true}
+use mathlib.Core.Bool.{Bool, true}
 use mathlib.Core.Logic.{⊎-elim}
 use native.Mathlib.Omega.{arith}
 use native.Mathlib.Decide.{decLt}
 use native.Mathlib.Nat.{le-of-eq, mul-le-mul-right, mul-lt-mul-of-pos-right, lt-of-mul-lt-mul-right, add-mul, one-mul, zero-mul, mul-zero}
+use borrow.Author.Tests.{eq-eqb, ne-eqb}
 use Rattle.line.specs.declared.line.Line.{Line}
-use Rattle.line.specs.Scene.{plane, Sized, entersAt, leavesAt, heldAt, Within}
+use Rattle.axis.specs.Leg.{slab, held}
+use Rattle.line.specs.Scene.{legN, slabN, plane, planesOf, Sized, entersAt, leavesAt, heldAt, Within}
 use Rattle.ray.proofs.Way.{Way, up, down, still, Goes, way as goes}
 use Rattle.line.proofs.Units.{enterBy, leaveBy, HeldBy, enters-is, leaves-is, held-by, by-held, enter-within, leave-within, held-within, apart}
 
@@ -57,21 +59,31 @@ module _ (a : Line) (c i : ℕ) (h : i < a .n) where
   pub leave-whole : leavesAt a c i (i + 1) ≤ leavesAt a c 0 (a .n)
   leave-whole = rw (leaves-by a c w (going a) 0 (a .n) (omega arith), leave-voxel a c w (going a) i) (mul-le-mul-right c (leave-within w (a .p) first last))
 
+-- whether voxel i holds its upper plane
+abbrev pub closed : Line → ℕ → Bool
+closed a i = slab (planesOf a) i (i + 1) .closed
+
+held-voxel : (a : Line) (i : ℕ) → heldAt a i (i + 1) ≡ true → HeldBy (wayOf a) (closed a i) (a .p) (plane a i) (plane a (i + 1))
+held-voxel a i = held-by (wayOf a) (closed a i) (a .p) (a .q) (plane a i) (plane a (i + 1)) (going a)
+
+-- the array holds its far plane
+pub held-array : (a : Line) → heldAt a 0 (a .n) ≡ held (legN (a .p) (a .q)) (slabN (plane a 0) (plane a (a .n)) true)
+held-array a = rw (eq-eqb (a .n) (a .n) refl) refl
+
 pub held-whole : (a : Line) (i : ℕ) → i < a .n → heldAt a i (i + 1) ≡ true → heldAt a 0 (a .n) ≡ true
 held-whole a i h k =
-    by-held (wayOf a) (a .p) (a .q) (plane a 0) (plane a (a .n)) (going a)
-    (held-within (wayOf a) (a .p) (first a 0 i h) (last a 0 i h) (held-by (wayOf a) (a .p) (a .q) (plane a i) (plane a (i + 1)) (going a) k))
+    held-array a
+    ∙ by-held (wayOf a) true (a .p) (a .q) (plane a 0) (plane a (a .n)) (going a)
+    (held-within (wayOf a) (closed a i) (a .p) (first a 0 i h) (last a 0 i h) (held-voxel a i k))
 
 module _ (a : Line) (sized : Sized a) (c t : ℕ) where
-  held-in : (k : ℕ) → Within a c t k → HeldBy (wayOf a) (a .p) (plane a k) (plane a (k + 1))
-  held-in k v = held-by (wayOf a) (a .p) (a .q) (plane a k) (plane a (k + 1)) (going a) (v .holds)
-
   apart-at : {i j : ℕ} → i < j → Within a c t i → Within a c t j → ⊥
   apart-at {i} {j} h x y =
       let enter = enter-voxel a c (wayOf a) (going a) in
       let leave = leave-voxel a c (wayOf a) (going a) in
       ⊎-elim (λ k. omega (arith, mul-le-mul-right c k, leave i, enter j, x .until, y .since)) (λ k. omega (arith, mul-le-mul-right c k, leave j, enter i, y .until, x .since))
-      (apart (wayOf a) (a .p) (plane-less a sized i) (plane-less a sized j) (plane-mono a (omega arith)) (held-in i x) (held-in j y))
+      (apart (wayOf a) (closed a j) (a .p) (plane-less a sized i) (plane-less a sized j) (plane-mono a (omega arith))
+      (rw (ne-eqb (i + 1) (a .n) (λ e. omega (arith, y .inside))) at (held-voxel a i (x .holds))) (held-voxel a j (y .holds)))
 
   -- a tick lies in one voxel of the axis
   pub one-voxel : {i j : ℕ} → Within a c t i → Within a c t j → i ≡ j
@@ -92,10 +104,10 @@ Left up i = Unit {0}
 Left down i = 0 < i
 Left still i = ⊥
 
-held-left : (w : Way) (p lo hi i : ℕ) → Left w i → HeldBy w p lo hi
-held-left up p lo hi i l = tt
-held-left down p lo hi i l = tt
-held-left still p lo hi i l = absurd l
+held-left : (w : Way) (closed : Bool) (p lo hi i : ℕ) → Left w i → HeldBy w closed p lo hi
+held-left up closed p lo hi i l = tt
+held-left down closed p lo hi i l = tt
+held-left still closed p lo hi i l = absurd l
 
 -- the next voxel is the one that the tick is in at which this one is left
 pub record Next (w : Way) (a : Line) (c i : ℕ) : Type 0 where
@@ -144,7 +156,7 @@ module _ (a : Line) (sized : Sized a) (i : ℕ) (h : i < a .n) where
         left = u .0;
         within = record {
           inside = u .1;
-          holds = by-held w (a .p) (a .q) (plane a (onward w i)) (plane a (onward w i + 1)) g (held-left w _ _ _ i (u .0));
+          holds = by-held w (closed a (onward w i)) (a .p) (a .q) (plane a (onward w i)) (plane a (onward w i + 1)) g (held-left w _ _ _ _ i (u .0));
           since = le-of-eq enter;
           until = omega (arith, mul-lt-mul-of-pos-right (u .3) (some .1), leave-voxel a c w g (onward w i));
         };

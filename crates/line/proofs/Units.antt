@@ -1,8 +1,8 @@
 -- One axis in its own units, by the way the ray goes on it: what ray's definitions come to where coordinates have no sign.
--- Every law below has a clause for each way. Assumes nothing.
+-- A law has a clause for each way, or for a slab that is closed and one that is not. Assumes nothing.
 use Prim.Native.Nat.{ℕ, zero, suc, _+_, _-_, _*_, _≤_, _<_}
 use mathlib.Core.Path.{_≡_, refl, sym, ap, _∙_}
-use mathlib.Core.Bool.{true, false, _&&_}
+use mathlib.Core.Bool.{Bool, true, false, _&&_, cond}
 use mathlib.Core.Logic.{_⊎_, inl, inr}
 use native.Mathlib.Omega.{arith}
 use native.Mathlib.Decide.{decLt}
@@ -17,7 +17,7 @@ use Rattle.axis.proofs.Shift.{natural-diff, sub-lt, sub-ge}
 use Rattle.line.specs.Scene.{legN, slabN}
 
 -- what is said of a slab is said of its planes by any name
-pub slab-same : {A : Type 0} (f : Slab → A) {lo hi lo′ hi′ : ℕ} → lo ≡ lo′ → hi ≡ hi′ → f (slabN lo hi) ≡ f (slabN lo′ hi′)
+pub slab-same : {A : Type 0} (f : Slab → A) {lo hi lo′ hi′ : ℕ} → lo ≡ lo′ → hi ≡ hi′ → f (slabN lo hi true) ≡ f (slabN lo′ hi′ true)
 slab-same f e k = rw (e, k) refl
 
 abbrev pub enterBy : Way → ℕ → ℕ → ℕ → ℕ
@@ -30,10 +30,15 @@ leaveBy up p lo hi = hi - p
 leaveBy down p lo hi = p - lo
 leaveBy still p lo hi = 1
 
-abbrev pub HeldBy : Way → ℕ → ℕ → ℕ → Type 0
-HeldBy up p lo hi = Unit {0}
-HeldBy down p lo hi = Unit {0}
-HeldBy still p lo hi = (lo ≤ p) × (p < hi)
+-- up to the upper plane, the plane itself where it is held
+abbrev pub Upto : Bool → ℕ → ℕ → Type 0
+Upto true p hi = p ≤ hi
+Upto false p hi = p < hi
+
+abbrev pub HeldBy : Way → Bool → ℕ → ℕ → ℕ → Type 0
+HeldBy up closed p lo hi = Unit {0}
+HeldBy down closed p lo hi = Unit {0}
+HeldBy still closed p lo hi = (lo ≤ p) × Upto closed p hi
 
 abs-diff : (a b : ℕ) → b ≤ a → natAbs (pos a -ℤ pos b) ≡ a - b
 abs-diff a zero h = omega arith
@@ -64,30 +69,50 @@ run-up p q x g = rw (lt-ltb p q g) (natural-diff x p)
 pub run-down : (p q x : ℕ) → q < p → run (legN p q) (pos x) ≡ p - x
 run-down p q x g = rw (le-ltb p q (omega arith)) (natural-diff p x)
 
-pub enters-is : (w : Way) (p q lo hi rest : ℕ) → Goes w p q → lo ≤ hi → enters rest (legN p q) (slabN lo hi) ≡ enterBy w p lo hi * rest
+pub enters-is : (w : Way) (p q lo hi rest : ℕ) → Goes w p q → lo ≤ hi → enters rest (legN p q) (slabN lo hi true) ≡ enterBy w p lo hi * rest
 enters-is up p q lo hi rest g h = rw (lt-ltb p q g, natural-diff lo p, natural-diff hi p) (ap (λ (x : ℕ). x * rest) (omega arith))
 enters-is down p q lo hi rest g h =
     rw (le-ltb p q (omega arith), lt-ltb q p g, natural-diff p lo, natural-diff p hi) (ap (λ (x : ℕ). x * rest) (omega arith))
 enters-is still p q lo hi rest g h = rw (le-ltb p q (omega arith), le-ltb q p (omega arith)) (sym (zero-mul rest))
 
-pub leaves-is : (w : Way) (p q lo hi rest : ℕ) → Goes w p q → lo ≤ hi → leaves rest (legN p q) (slabN lo hi) ≡ leaveBy w p lo hi * rest
+pub leaves-is : (w : Way) (p q lo hi rest : ℕ) → Goes w p q → lo ≤ hi → leaves rest (legN p q) (slabN lo hi true) ≡ leaveBy w p lo hi * rest
 leaves-is up p q lo hi rest g h = rw (lt-ltb p q g, natural-diff lo p, natural-diff hi p) (ap (λ (x : ℕ). x * rest) (omega arith))
 leaves-is down p q lo hi rest g h =
     rw (le-ltb p q (omega arith), lt-ltb q p g, natural-diff p lo, natural-diff p hi) (ap (λ (x : ℕ). x * rest) (omega arith))
 leaves-is still p q lo hi rest g h = rw (le-ltb p q (omega arith), le-ltb q p (omega arith)) (sym (one-mul rest))
 
--- what is held, and that it is
-pub held-by : (w : Way) (p q lo hi : ℕ) → Goes w p q → held (legN p q) (slabN lo hi) ≡ true → HeldBy w p lo hi
-held-by up p q lo hi g h = tt
-held-by down p q lo hi g h = tt
-held-by still p q lo hi g h =
-    let k : (leb lo p && ltb p hi) ≡ true = rw (le-ltb p q (omega arith), le-ltb q p (omega arith)) at h in
-    (leb-true lo p (and-left (leb lo p) (ltb p hi) k), ltb-true p hi (and-right (leb lo p) (ltb p hi) k))
+-- ---- up to the upper plane, by the test
+abbrev upto : Bool → ℕ → ℕ → Bool
+upto closed p hi = cond closed (leb p hi) (ltb p hi)
 
-pub by-held : (w : Way) (p q lo hi : ℕ) → Goes w p q → HeldBy w p lo hi → held (legN p q) (slabN lo hi) ≡ true
-by-held up p q lo hi g h = rw (lt-ltb p q g) refl
-by-held down p q lo hi g h = rw (le-ltb p q (omega arith), lt-ltb q p g) refl
-by-held still p q lo hi g h = rw (le-ltb p q (omega arith), le-ltb q p (omega arith), le-leb lo p (h .0), lt-ltb p hi (h .1)) refl
+upto-by : (closed : Bool) (p hi : ℕ) → upto closed p hi ≡ true → Upto closed p hi
+upto-by true p hi h = leb-true p hi h
+upto-by false p hi h = ltb-true p hi h
+
+by-upto : (closed : Bool) (p hi : ℕ) → Upto closed p hi → upto closed p hi ≡ true
+by-upto true p hi h = le-leb p hi h
+by-upto false p hi h = lt-ltb p hi h
+
+pub upto-any : (closed : Bool) {p hi : ℕ} → p < hi → Upto closed p hi
+upto-any true h = omega arith
+upto-any false h = h
+
+upto-most : (closed : Bool) {p hi : ℕ} → Upto closed p hi → p ≤ hi
+upto-most true h = h
+upto-most false h = omega (arith, h)
+
+-- ---- what is held, and that it is
+pub held-by : (w : Way) (closed : Bool) (p q lo hi : ℕ) → Goes w p q → held (legN p q) (slabN lo hi closed) ≡ true → HeldBy w closed p lo hi
+held-by up closed p q lo hi g h = tt
+held-by down closed p q lo hi g h = tt
+held-by still closed p q lo hi g h =
+    let k : (leb lo p && upto closed p hi) ≡ true = rw (le-ltb p q (omega arith), le-ltb q p (omega arith)) at h in
+    (leb-true lo p (and-left (leb lo p) (upto closed p hi) k), upto-by closed p hi (and-right (leb lo p) (upto closed p hi) k))
+
+pub by-held : (w : Way) (closed : Bool) (p q lo hi : ℕ) → Goes w p q → HeldBy w closed p lo hi → held (legN p q) (slabN lo hi closed) ≡ true
+by-held up closed p q lo hi g h = rw (lt-ltb p q g) refl
+by-held down closed p q lo hi g h = rw (le-ltb p q (omega arith), lt-ltb q p g) refl
+by-held still closed p q lo hi g h = rw (le-ltb p q (omega arith), le-ltb q p (omega arith), le-leb lo p (h .0), by-upto closed p hi (h .1)) refl
 
 -- ---- laws of the ways
 pub enter-within : (w : Way) (p : ℕ) {lo hi lo₀ hi₁ : ℕ} → lo₀ ≤ lo → hi ≤ hi₁ → enterBy w p lo₀ hi₁ ≤ enterBy w p lo hi
@@ -100,14 +125,14 @@ leave-within up p a b = omega arith
 leave-within down p a b = omega arith
 leave-within still p a b = omega arith
 
-pub held-within : (w : Way) (p : ℕ) {lo hi lo₀ hi₁ : ℕ} → lo₀ ≤ lo → hi ≤ hi₁ → HeldBy w p lo hi → HeldBy w p lo₀ hi₁
-held-within up p a b h = tt
-held-within down p a b h = tt
-held-within still p a b h = (omega (arith, h .0), omega (arith, h .1))
+pub held-within : (w : Way) (closed : Bool) (p : ℕ) {lo hi lo₀ hi₁ : ℕ} → lo₀ ≤ lo → hi ≤ hi₁ → HeldBy w closed p lo hi → HeldBy w true p lo₀ hi₁
+held-within up closed p a b h = tt
+held-within down closed p a b h = tt
+held-within still closed p a b h = (omega (arith, h .0), omega (arith, upto-most closed (h .1)))
 
 -- two stretches with no place in common: the ray is out of one before it is in the other
-pub apart : (w : Way) (p : ℕ) {lo hi lo′ hi′ : ℕ} → lo < hi → lo′ < hi′ → hi ≤ lo′ → HeldBy w p lo hi → HeldBy w p lo′ hi′
+pub apart : (w : Way) (closed : Bool) (p : ℕ) {lo hi lo′ hi′ : ℕ} → lo < hi → lo′ < hi′ → hi ≤ lo′ → HeldBy w false p lo hi → HeldBy w closed p lo′ hi′
     → (leaveBy w p lo hi ≤ enterBy w p lo′ hi′) ⊎ (leaveBy w p lo′ hi′ ≤ enterBy w p lo hi)
-apart up p a b c h k = inl (omega arith)
-apart down p a b c h k = inr (omega arith)
-apart still p a b c h k = absurd (omega (arith, h .1, k .0))
+apart up closed p a b c h k = inl (omega arith)
+apart down closed p a b c h k = inr (omega arith)
+apart still closed p a b c h k = absurd (omega (arith, h .1, k .0))

@@ -3,7 +3,7 @@ use Prim.Native.Nat.{ℕ, _+_, _*_, _^_, _≤_, _<_}
 use mathlib.Core.Path.{_≡_}
 use mathlib.Core.Bool.{Bool, true}
 use lib.IntN.{pos}
-use Rattle.axis.specs.Leg.{Leg, Slab, held, enters, leaves}
+use Rattle.axis.specs.Leg.{Planes, Leg, Slab, slab, held, enters, leaves}
 use Rattle.ray.specs.declared.Ray.{Ray}
 use Rattle.ray.specs.Length.{Side, X, Y, Z, Volume}
 use Rattle.line.specs.declared.line.Line.{Line}
@@ -12,11 +12,14 @@ use Rattle.line.specs.declared.scene.Scene.{Scene}
 abbrev pub legN : ℕ → ℕ → Leg
 legN p q = record { p = pos p; q = pos q }
 
-abbrev pub slabN : ℕ → ℕ → Slab
-slabN lo hi = record { lo = pos lo; hi = pos hi }
+abbrev pub slabN : (lo hi : ℕ) → Bool → Slab
+slabN lo hi closed = record { lo = pos lo; hi = pos hi; closed = closed }
 
 abbrev pub plane : Line → ℕ → ℕ
 plane a i = a .b + i * a .d
+
+abbrev pub planesOf : Line → Planes
+planesOf a = record { n = a .n; at = λ i. pos (plane a i) }
 
 abbrev pub line : Scene → Side → Line
 line s X = s .x
@@ -24,7 +27,7 @@ line s Y = s .y
 line s Z = s .z
 
 abbrev pub volumeOf : Scene → Volume
-volumeOf s side = record { n = line s side .n; at = λ i. pos (plane (line s side) i) }
+volumeOf s side = planesOf (line s side)
 
 abbrev pub rayOf : Scene → Ray
 rayOf s = record {
@@ -48,13 +51,13 @@ pub record Able (s : Scene) : Type 0 where
 -- where the ray comes in between the planes i and j of an axis, in ticks of c to a unit, where it goes out, and whether
 -- they hold a still one
 abbrev pub entersAt : Line → (c i j : ℕ) → ℕ
-entersAt a c i j = enters c (legN (a .p) (a .q)) (slabN (plane a i) (plane a j))
+entersAt a c i j = enters c (legN (a .p) (a .q)) (slab (planesOf a) i j)
 
 abbrev pub leavesAt : Line → (c i j : ℕ) → ℕ
-leavesAt a c i j = leaves c (legN (a .p) (a .q)) (slabN (plane a i) (plane a j))
+leavesAt a c i j = leaves c (legN (a .p) (a .q)) (slab (planesOf a) i j)
 
 abbrev pub heldAt : Line → (i j : ℕ) → Bool
-heldAt a i j = held (legN (a .p) (a .q)) (slabN (plane a i) (plane a j))
+heldAt a i j = held (legN (a .p) (a .q)) (slab (planesOf a) i j)
 
 -- the tick t is within the array's planes on an axis
 pub record Window (a : Line) (c t : ℕ) : Type 0 where

@@ -1,5 +1,6 @@
 // One axis of a scene against the ray, in the axis' own units: a unit is α times the difference of the ends.
 ghost use mathlib.Core.Path.{_≡_};
+ghost use mathlib.Core.Bool.{true};
 ghost use Prim.Native.Nat.{ℕ, _+_, _*_, _^_, _≤_, _<_};
 ghost use lib.IntN.{pos};
 ghost use Rattle.axis.specs.Leg.{factor, run, enters, leaves, held};
@@ -41,9 +42,9 @@ impl Line {
         }
     }
 
-    // Where the ray comes in between the planes lo and hi.
+    // Where the ray comes in between the planes lo and hi, whichever of them are held.
     pub fn enter(self, lo: u64, hi: u64) -> u64
-        ensures { λ r. ⌜ ((rest : ℕ) → r * rest ≡ enters rest (legN (self .p) (self .q)) (slabN lo hi)) ⌝ }
+        ensures { λ r. ⌜ ((rest : ℕ) → r * rest ≡ enters rest (legN (self .p) (self .q)) (slabN lo hi true)) ⌝ }
     {
         if self.p == self.q {
             return 0;
@@ -53,7 +54,7 @@ impl Line {
 
     // Where it goes out of them; a still axis leaves it whole.
     pub fn leave(self, lo: u64, hi: u64) -> u64
-        ensures { λ r. ⌜ ((rest : ℕ) → r * rest ≡ leaves rest (legN (self .p) (self .q)) (slabN lo hi)) ⌝ }
+        ensures { λ r. ⌜ ((rest : ℕ) → r * rest ≡ leaves rest (legN (self .p) (self .q)) (slabN lo hi true)) ⌝ }
     {
         if self.p == self.q {
             return 1;
@@ -61,11 +62,12 @@ impl Line {
         most(self.run(lo), self.run(hi))
     }
 
+    // Whether the array holds the ray, where lo and hi are its first and far plane: both are its own.
     pub fn held(self, lo: u64, hi: u64) -> bool
-        ensures { λ r. ⌜ r ≡ held (legN (self .p) (self .q)) (slabN lo hi) ⌝ }
+        ensures { λ r. ⌜ r ≡ held (legN (self .p) (self .q)) (slabN lo hi true) ⌝ }
     {
         if self.p == self.q {
-            if lo <= self.p { self.p < hi } else { false }
+            if lo <= self.p { self.p <= hi } else { false }
         } else {
             true
         }
@@ -78,7 +80,8 @@ impl Line {
         self.b + i * self.d
     }
 
-    // The voxel of the axis that the ray is in from the tick t on, in ticks of c to a unit: by one division, with no scan.
+    // The voxel of the axis that the ray is in from the tick t on, in ticks of c to a unit: by one division, with no scan. In the far
+    // face the quotient of a still axis is one too high.
     pub fn index(self, c: u64, t: u64) -> u64
         requires { ⌜ Sized self ⌝ }
         requires { ⌜ Window self c t ⌝ }
@@ -91,7 +94,7 @@ impl Line {
         if self.q < self.p {
             return (self.p - g - 1 - self.b) / self.d;
         }
-        (self.p - self.b) / self.d
+        least((self.p - self.b) / self.d, self.n - 1)
     }
 
     // What one voxel on, in the way of the ray, adds to the number modulo 2^64, where a voxel of the axis counts unit.

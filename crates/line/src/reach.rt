@@ -1,8 +1,7 @@
 // One axis against the whole array, in ticks: c ticks to a unit.
 ghost use mathlib.Core.Path.{_≡_};
 ghost use Prim.Native.Nat.{_+_, _-_, _^_, _≤_, _<_};
-ghost use Rattle.axis.specs.Leg.{leaves};
-ghost use Rattle.line.specs.Scene.{legN, slabN, plane, Sized, Window};
+ghost use Rattle.line.specs.Scene.{leavesAt, Sized, Window};
 ghost use Rattle.line.specs.Reach.{Reached, crossedOn};
 use crate::extremes::apart;
 use crate::line::Line;
@@ -34,7 +33,7 @@ impl Line {
     // The tick at which the ray leaves voxel i.
     pub fn leave_tick(self, c: u64, i: u64) -> u64
         requires { ⌜ Sized self × (c ≤ 2 ^ 40) × (i < self .n) ⌝ }
-        ensures { λ r. ⌜ r ≡ leaves c (legN (self .p) (self .q)) (slabN (plane self i) (plane self (i + 1))) ⌝ }
+        ensures { λ r. ⌜ r ≡ leavesAt self c i (i + 1) ⌝ }
         ensures { λ r. ⌜ r ≤ 2 ^ 60 ⌝ }
     {
         let lo = self.plane(i);

@@ -15,7 +15,7 @@ use Rattle.ray.proofs.Capped.{d-pos, d-side}
 use Rattle.ray.proofs.Fraction as ray
 use Rattle.line.specs.declared.line.Line.{Line}
 use Rattle.line.specs.declared.scene.Scene.{Scene}
-use Rattle.line.specs.Scene.{legN, slabN, plane, line, rayOf, volumeOf, Sized, Able}
+use Rattle.line.specs.Scene.{legN, plane, line, rayOf, volumeOf, Sized, Able}
 use Rattle.line.proofs.Units.{enterBy, leaveBy, enters-is, leaves-is}
 use Rattle.line.proofs.Stretch.{plane-mono}
 use Rattle.line.proofs.Sizes.{factor-size}
@@ -92,7 +92,7 @@ module _ (s : Scene) (able : Able s) where
   l o = legN (line s o .p) (line s o .q)
 
   abbrev b : Side → Slab
-  b o = slabN (plane (line s o) 0) (plane (line s o) (line s o .n))
+  b = array (volumeOf s)
 
   -- units over the axis' own difference are their ticks over D
   units-are : (o : Side) (ticks : ℕ → ℕ) → ((n : ℕ) → ticks 1 * n ≡ ticks n) → Short (over (ticks 1) (factor (l o)))

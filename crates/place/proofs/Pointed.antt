@@ -7,7 +7,7 @@ use native.Mathlib.Omega.{arith}
 use lib.IntN.{ℤ, pos, _*ℤ_}
 use lib.Dec.{T}
 use lib.Ieee.{Float, binary64, le, ofInt}
-use Rattle.axis.specs.Leg.{Slab, planes}
+use Rattle.axis.specs.Leg.{Slab, slab, planes}
 use Rattle.axis.specs.declared.Limits.{Limits}
 use Rattle.ray.specs.declared.Grid.{Grid}
 use Rattle.ray.specs.declared.Ray.{Ray}
@@ -69,7 +69,7 @@ module _ (m : Limits) (g : Grid) (r : Ray) where
   line-is Y = refl
   line-is Z = refl
 
-  array-is : (o : Side) → array (volume g) o ≡ record { lo = planes (axisOf g o) .at 0; hi = planes (axisOf g o) .at (axisOf g o .n) }
+  array-is : (o : Side) → array (volume g) o ≡ slab (planes (axisOf g o)) 0 (axisOf g o .n)
   array-is X = refl
   array-is Y = refl
   array-is Z = refl

@@ -2,7 +2,7 @@
 use Prim.Native.Nat.{ℕ, _+_, _-_, _*_, _^_, _≤_, _<_, zero-le}
 use mathlib.Core.Path.{_≡_, sym, ap, _∙_}
 use mathlib.Core.Bool.{true}
-use native.Mathlib.Nat.{mul-le-mul-right, mul-le-mul-left, mul-comm, mul-assoc, mul-left-comm, mul-sub, add-mul, le-refl, le-trans, le-of-eq, le-of-lt, lt-of-lt-of-le, min-le-left, min-le-right}
+use native.Mathlib.Nat.{mul-le-mul-right, mul-le-mul-left, mul-comm, mul-assoc, mul-left-comm, mul-sub, add-mul, le-refl, le-trans, le-of-eq, lt-of-lt-of-le, min-le-left, min-le-right}
 use native.Mathlib.Omega.{arith}
 use lib.Ieee.Positive.{first-pos}
 use Rattle.axis.specs.Leg.{Leg, Slab, factor, held, enters, leaves}
@@ -11,13 +11,14 @@ use Rattle.ray.specs.Length.{Side, dOf, rest, array, start, stop, holds}
 use Rattle.ray.proofs.Way.{Way, up, down, still, Goes, way, factorBy}
 use Rattle.ray.proofs.Through.{sub-times}
 use Rattle.ray.proofs.Capped.{d-side}
+use Rattle.ray.proofs.Tests.{all-of}
 use Rattle.line.specs.declared.scene.Scene.{Scene}
 use Rattle.line.specs.Scene.{legN, plane, line, volumeOf, rayOf}
 use Rattle.line.proofs.Units.{enterBy, leaveBy, HeldBy, factor-is, enters-is, leaves-is, held-by}
 use Rattle.line.proofs.Sizes.{two-sizes}
 use Rattle.line.proofs.Three.{le-most, least-le}
-use Rattle.line.proofs.Stretch.{plane-mono}
-use Rattle.line.proofs.Scenes.{leg-is, all-held}
+use Rattle.line.proofs.Stretch.{plane-mono, held-array}
+use Rattle.line.proofs.Scenes.{leg-is}
 use Rattle.place.specs.declared.fraction.Fraction.{Fraction}
 use Rattle.place.specs.Deciding.{OnRay}
 
@@ -42,7 +43,7 @@ Between lo hi p q t d = (lo * d ≤ spot p q t d) × (spot p q t d ≤ hi * d)
 record In (w : Way) (lo hi p q n t d : ℕ) : Type 0 where
   goes : Goes w p q
   whole : factorBy w p q * n ≡ d
-  held : HeldBy w p lo hi
+  held : HeldBy w true p lo hi
   some : 0 < leaveBy w p lo hi
   after : enterBy w p lo hi * n ≤ t
   until : t ≤ leaveBy w p lo hi * n
@@ -71,7 +72,7 @@ module _ {lo hi p q n t d : ℕ} where
       (omega (arith, at, to down i, ordered lo p d (omega (arith, i .some))), omega (arith, at, from down i, sub-times p hi d))
   between still i =
       let at : spot p q t d ≡ p * d = ap (λ (x : ℕ). p * (d - t) + x * t) (sym (i .goes)) ∙ split p t d (i .most) in
-      (omega (arith, at, mul-le-mul-right d (i .held .0)), omega (arith, at, mul-le-mul-right d (le-of-lt (i .held .1))))
+      (omega (arith, at, mul-le-mul-right d (i .held .0)), omega (arith, at, mul-le-mul-right d (i .held .1)))
 
 -- a place of the ray that is in the array
 module _ (s : Scene) (t : ℕ) where
@@ -98,7 +99,7 @@ module _ (s : Scene) (t : ℕ) where
         between (w .0) (record {
           goes = w .1;
           whole = ap (λ (f : ℕ). f * n) (sym (factor-is (w .0) (a .p) (a .q) (w .1))) ∙ sym share;
-          held = held-by (w .0) (a .p) (a .q) (plane a 0) (plane a (a .n)) (w .1) (all-held (λ o. held (l o) (v o)) holding o);
+          held = held-by (w .0) true (a .p) (a .q) (plane a 0) (plane a (a .n)) (w .1) (sym (held-array a) ∙ all-of (λ o. held (l o) (v o)) holding o);
           some = first-pos _ n (lt-of-lt-of-le some (le-trans out (le-of-eq out-ticks)));
           after = le-trans (le-of-eq (sym in-ticks)) (le-trans (le-most (λ o. enters (rest r o) (l o) (v o)) o) after);
           until = le-trans until (le-trans out (le-of-eq out-ticks));

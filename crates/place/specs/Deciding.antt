@@ -3,13 +3,13 @@
 use Prim.Native.Nat.{ℕ, _*_, _^_, _≤_, _<_}
 use mathlib.Core.Bool.{Bool, _&&_, cond}
 use lib.Dec.{eqb, ltb}
-use Rattle.axis.specs.Leg.{Leg, factor, Slab, held, enters, leaves}
+use Rattle.axis.specs.Leg.{Leg, factor, Slab, slab, held, enters, leaves}
 use Rattle.axis.specs.declared.Limits.{Limits}
 use Rattle.ray.specs.declared.Grid.{Grid}
 use Rattle.ray.specs.declared.Ray.{Ray}
 use Rattle.line.specs.declared.line.Line.{Line}
 use Rattle.line.specs.declared.scene.Scene.{Scene}
-use Rattle.line.specs.Scene.{legN, slabN, plane}
+use Rattle.line.specs.Scene.{legN, planesOf}
 use Rattle.line.specs.Raised.{sceneOf}
 use Rattle.place.specs.declared.fraction.Fraction.{Fraction}
 use Rattle.place.specs.declared.crossing.Stretch.{Stretch}
@@ -34,7 +34,7 @@ over n d = record { num = n; den = d }
 abbrev pub stretchOf : Line → Stretch
 stretchOf a =
     let l : Leg = legN (a .p) (a .q) in
-    let s : Slab = slabN (plane a 0) (plane a (a .n)) in
+    let s : Slab = slab (planesOf a) 0 (a .n) in
     record { enter = over (enters 1 l s) (factor l); leave = over (leaves 1 l s) (factor l); held = held l s }
 
 abbrev pub below : Fraction → Fraction → Bool

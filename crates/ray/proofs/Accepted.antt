@@ -32,11 +32,11 @@ module _ (m : Limits) (g : Grid) where
   abbrev noD : Side → Bool
   noD o = beyond (m .d) (axisOf g o .d)
 
-  abbrev far : Side → Bool
-  far o = planesOut m (axisOf g o)
+  abbrev noPlanes : Side → Bool
+  noPlanes o = planesOut m (axisOf g o)
 
-  pub grid-are : first (gridRows m g) ≡ cond (any noN) 1 (cond (any noD) 2 (cond (any far) 3 0))
-  grid-are = asked 1 noN _ ∙ ap (cond (any noN) 1) (asked 2 noD _ ∙ ap (cond (any noD) 2) (asked 3 far 0))
+  pub grid-are : first (gridRows m g) ≡ cond (any noN) 1 (cond (any noD) 2 (cond (any noPlanes) 3 0))
+  grid-are = asked 1 noN _ ∙ ap (cond (any noN) 1) (asked 2 noD _ ∙ ap (cond (any noD) 2) (asked 3 noPlanes 0))
 
 -- and those of the ends
 abbrev pub moves : Ray → Side → Bool

@@ -9,12 +9,13 @@ use native.Mathlib.Omega.{arith}
 use native.Mathlib.Decide.{decLt, ℕ-discrete}
 use lib.IntN.{ℤ}
 use lib.Signed.{leZ, ltZ}
+use borrow.Author.Tests.{ne-eqb}
 use Rattle.axis.specs.Leg.{moving, run, Slab, held}
 use Rattle.axis.proofs.Flag.{and-left, and-right}
 use Rattle.ray.specs.declared.Ray.{Ray}
-use Rattle.ray.specs.Length.{Side, X, Y, Z, leg, dOf, rest, Volume, count, index, voxel, holds, start, stop, partOf}
+use Rattle.ray.specs.Length.{Side, X, Y, Z, leg, dOf, rest, Volume, count, index, voxel, start, stop, partOf}
 use Rattle.ray.proofs.Through.{cap-rises}
-use Rattle.ray.proofs.Tests.{tested}
+use Rattle.ray.proofs.Tests.{tested, all-of}
 use Rattle.ray.proofs.Told.{le-shift, lt-shift, level, natural-rises, natural-falls}
 use Rattle.ray.proofs.Planes.{Rise, rise-to}
 use Rattle.ray.proofs.Listing.{Apart, Has, starts}
@@ -32,20 +33,20 @@ module _ (r : Ray) (s : Side) where
   unfolding on
   on-falls c c′ u h = cap-rises (dOf r) (rest r s) (run (leg r s) c′) (run (leg r s) c) (rw u (natural-falls c c′ (leg r s .p) h))
 
-  -- of two slabs, t below t′, one is left before the other is entered
-  module _ (t t′ : Slab) (h : leZ (t .lo) (t .hi) ≡ true) (gap : leZ (t .hi) (t′ .lo) ≡ true) (h′ : leZ (t′ .lo) (t′ .hi) ≡ true) where
-    not-both : (p : ℤ) → (leZ (t .lo) p && ltZ p (t .hi)) ≡ true → (leZ (t′ .lo) p && ltZ p (t′ .hi)) ≡ true → ⊥
+  -- of two slabs, t below t′ and not closed, one is left before the other is entered
+  module _ (t t′ : Slab) (lower : t .closed ≡ false) (h : leZ (t .lo) (t .hi) ≡ true) (gap : leZ (t .hi) (t′ .lo) ≡ true) (h′ : leZ (t′ .lo) (t′ .hi) ≡ true) where
+    not-both : (p : ℤ) → (leZ (t .lo) p && ltZ p (t .hi)) ≡ true → leZ (t′ .lo) p ≡ true → ⊥
     not-both p a b = level p (t .hi) (t′ .lo) (λ k hp hi lo. omega (
       arith,
       lt-shift k p (t .hi) hp hi (and-right (leZ (t .lo) p) (ltZ p (t .hi)) a),
       le-shift k (t .hi) (t′ .lo) hi lo gap,
-      le-shift k (t′ .lo) p lo hp (and-left (leZ (t′ .lo) p) (ltZ p (t′ .hi)) b),
+      le-shift k (t′ .lo) p lo hp b,
     ))
 
     apart-side : held (leg r s) t ≡ true → held (leg r s) t′ ≡ true → (leave r s t ≤ enter r s t′) ⊎ (leave r s t′ ≤ enter r s t)
     unfolding enter leave
     apart-side a b = elim (tested (moving (leg r s))) [
-      | inr m ↦ absurd (not-both (leg r s .p) (rw m at a) (rw m at b))
+      | inr m ↦ absurd (not-both (leg r s .p) (rw (m, lower) at a) (and-left (leZ (t′ .lo) (leg r s .p)) _ (rw m at b)))
       | inl m ↦ elim (tested (ltZ (leg r s .p) (leg r s .q))) [
         | inl u ↦ rw m (inl (omega (arith, on-rises (t .lo) (t .hi) u h, on-rises (t .hi) (t′ .lo) u gap, on-rises (t′ .lo) (t′ .hi) u h′)))
         | inr u ↦ rw m (inr (omega (arith, on-falls (t .lo) (t .hi) u h, on-falls (t .hi) (t′ .lo) u gap, on-falls (t′ .lo) (t′ .hi) u h′)))
@@ -61,11 +62,6 @@ OneFirst v r m w = (stop r (voxel v m) ≤ start r (voxel v w)) ⊎ (stop r (vox
 clash : (a b c : ℕ) → a < b → b ≤ c → a ≡ c → ⊥
 clash a b c h k e = omega arith
 
-held-on : (r : Ray) (b : Side → Slab) → holds r b ≡ true → (s : Side) → held (leg r s) (b s) ≡ true
-held-on r b h X = and-left (held (leg r X) (b X)) _ h
-held-on r b h Y = and-left (held (leg r Y) (b Y)) _ (and-right (held (leg r X) (b X)) _ h)
-held-on r b h Z = and-right (held (leg r Y) (b Y)) _ (and-right (held (leg r X) (b X)) _ h)
-
 module _ (r : Ray) (b : Side → Slab) where
   stop-side : (s : Side) → stop r b ≤ leave r s (b s)
   stop-side X = rw (stop-sides r b) (min-le-left (leave r X (b X)) _)
@@ -78,7 +74,7 @@ module _ (r : Ray) (b : Side → Slab) where
   begin-side Z = rw (begin-sides r b) (le-trans (le-max-right (enter r Y (b Y)) _) (le-max-right (enter r X (b X)) _))
 
 module _ (v : Volume) (rise : Rise v) (r : Ray) where
-  met-in : (m : ℕ) → Has v r m → Met r (voxel v m)
+  pub met-in : (m : ℕ) → Has v r m → Met r (voxel v m)
   met-in m h = met r (voxel v m) (rw (part-voxel v r m) at (h .1))
 
   -- m below w on a side
@@ -90,12 +86,12 @@ module _ (v : Volume) (rise : Rise v) (r : Ray) where
       ⊎-elim
       (λ l. inl (le-trans (stop-side r (voxel v m) s) (le-trans l (rw (mw .begins) at (begin-side r (voxel v w) s)))))
       (λ l. inr (le-trans (stop-side r (voxel v w) s) (le-trans l (rw (mm .begins) at (begin-side r (voxel v m) s)))))
-      (apart-side r s (voxel v m s) (voxel v w s)
+      (apart-side r s (voxel v m s) (voxel v w s) (ne-eqb (index v m s + 1) (v s .n) (λ e. omega arith))
       (rise-to v rise s (index v m s) (index v m s + 1) (omega arith) (omega arith))
       (rise-to v rise s (index v m s + 1) (index v w s) (omega arith) (omega arith))
       (rise-to v rise s (index v w s) (index v w s + 1) (omega arith) (omega arith))
-      (held-on r (voxel v m) (mm .held) s)
-      (held-on r (voxel v w) (mw .held) s))
+      (all-of (λ o. held (leg r o) (voxel v m o)) (mm .held) s)
+      (all-of (λ o. held (leg r o) (voxel v w o)) (mw .held) s))
 
   module _ (m w : ℕ) (hm : Has v r m) (hw : Has v r w) where
     side-apart : (s : Side) → (index v m s ≡ index v w s → ⊥) → OneFirst v r m w

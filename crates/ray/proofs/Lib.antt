@@ -26,6 +26,7 @@ pub mod HitOrMiss
 pub mod Planes
 pub mod Indices
 pub mod Apart
+pub mod FarFace
 pub mod TurnedList
 pub mod Seam
 pub mod Ends

@@ -6,7 +6,7 @@ use mathlib.Core.List.{List}
 use lib.IntN.{ℤ, natAbs, _+ℤ_, _-ℤ_}
 use lib.Dec.{leb, ltb, eqb}
 use lib.ListN.{getD}
-use Rattle.axis.specs.Leg.{Slab, moving, factor, run, held, enters, leaves}
+use Rattle.axis.specs.Leg.{Slab, slab, moving, factor, run, held, enters, leaves}
 use Rattle.ray.specs.declared.Ray.{Ray}
 use Rattle.ray.specs.Length.{Side, X, Y, Z, leg, dOf, rest, squaredOf, Volume, count, array, index, voxel, holds, start, stop, partOf, misses, spanOf, insert, listTo, listOf, total, sumOf, crosses, crossedOf}
 use Rattle.ray.proofs.Different.{alphaOf, some, crossedAt, differentOf}
@@ -66,14 +66,14 @@ module _ {k : ℤ} {v v′ : Volume} {r r′ : Ray} (moved : Moved k v v′ r r�
   index-moved m Y = λ t. m / moved .sizes X t % moved .sizes Y t
   index-moved m Z = λ t. m / moved .sizes X t / moved .sizes Y t
 
+  slab-moved : (s : Side) (i j : ℕ) → slab (v′ s) i j ≡ slabOn k (slab (v s) i j)
+  slab-moved s i j = λ t. record { lo = moved .planes s i t; hi = moved .planes s j t; closed = eqb j (moved .sizes s t) }
+
   pub voxel-moved : (m : ℕ) (s : Side) → voxel v′ m s ≡ slabOn k (voxel v m s)
-  voxel-moved m s =
-      (λ t. record { lo = v′ s .at (index-moved m s t); hi = v′ s .at (index-moved m s t + 1) })
-      ∙ (λ t. record { lo = moved .planes s (index v m s) t; hi = moved .planes s (index v m s + 1) t })
+  voxel-moved m s = (λ t. slab (v′ s) (index-moved m s t) (index-moved m s t + 1)) ∙ slab-moved s (index v m s) (index v m s + 1)
 
   pub array-moved : (s : Side) → array v′ s ≡ slabOn k (array v s)
-  array-moved s =
-      (λ t. record { lo = v′ s .at 0; hi = v′ s .at (moved .sizes s t) }) ∙ (λ t. record { lo = moved .planes s 0 t; hi = moved .planes s (v s .n) t })
+  array-moved s = (λ t. slab (v′ s) 0 (moved .sizes s t)) ∙ slab-moved s 0 (v s .n)
 
   pub part-moved : (m : ℕ) → partOf v′ r′ m ≡ partOf v r m
   unfolding partOf

@@ -26,7 +26,7 @@ module _ (k : ℤ) where
   legOn l = record { p = l .p +ℤ k; q = l .q +ℤ k }
 
   abbrev pub slabOn : Slab → Slab
-  slabOn s = record { lo = s .lo +ℤ k; hi = s .hi +ℤ k }
+  slabOn s = record { lo = s .lo +ℤ k; hi = s .hi +ℤ k; closed = s .closed }
 
   module _ (l : Leg) where
     pub moving-on : moving (legOn l) ≡ moving l
@@ -40,7 +40,7 @@ module _ (k : ℤ) where
 
     module _ (s : Slab) where
       pub held-on : held (legOn l) (slabOn s) ≡ held l s
-      held-on = λ i. moving-on i || (le-on (s .lo) (l .p) i && lt-on (l .p) (s .hi) i)
+      held-on = λ i. moving-on i || (le-on (s .lo) (l .p) i && cond (s .closed) (le-on (l .p) (s .hi) i) (lt-on (l .p) (s .hi) i))
 
       pub enters-on : (rest : ℕ) → enters rest (legOn l) (slabOn s) ≡ enters rest l s
       enters-on rest = λ i. cond (moving-on i) (min (run-on (s .lo) i) (run-on (s .hi) i) * rest) 0

@@ -1,4 +1,4 @@
--- Tests that compute: by cases, when two are the same, of some side, and a number between two others. Assumes nothing.
+-- Tests that compute: by cases, when two are the same, of every side or some, and a number between two others. Assumes nothing.
 use Prim.Native.Nat.{ℕ, _<_}
 use mathlib.Core.Path.{_≡_, refl, sym}
 use mathlib.Core.Bool.{Bool, true, false, _&&_, _||_, or-true}
@@ -17,8 +17,13 @@ same-test true b f g = sym (f refl)
 same-test false true f g = g refl
 same-test false false f g = refl
 
--- a test that holds of some side
+-- a test that holds of every side, or of some
 module _ (b : Side → Bool) where
+  pub all-of : (b X && (b Y && b Z)) ≡ true → (s : Side) → b s ≡ true
+  all-of h X = and-left (b X) _ h
+  all-of h Y = and-left (b Y) _ (and-right (b X) _ h)
+  all-of h Z = and-right (b Y) _ (and-right (b X) _ h)
+
   abbrev pub any : Bool
   any = b X || (b Y || b Z)
 

@@ -16,7 +16,7 @@ use Rattle.ray.specs.Length.{X, Y, Z, leg, volume, count, listOf}
 abbrev pub gridRows : Limits → Grid → List Row
 gridRows m g = axisRows m (g .x ∷ g .y ∷ g .z ∷ [])
 
--- RULES 6: 5, an end beyond the limits, P before Q on an axis; 6, no axis on which the ends differ
+-- RULES 6: 5, an end beyond the limits on some axis; 6, no axis on which the ends differ
 abbrev pub endRows : Limits → Ray → List Row
 endRows m r =
     each 5 (λ c. not (inside m c)) (r .p .x ∷ r .q .x ∷ r .p .y ∷ r .q .y ∷ r .p .z ∷ r .q .z ∷ [])

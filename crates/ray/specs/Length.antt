@@ -5,7 +5,7 @@ use mathlib.Core.List.{List, [], _∷_}
 use lib.IntN.{natAbs, _-ℤ_}
 use lib.Dec.{leb, ltb}
 use lib.ListN.{getD}
-use Rattle.axis.specs.Leg.{Planes, planes, Leg, moving, factor, run, Slab, held, enters, leaves}
+use Rattle.axis.specs.Leg.{Planes, planes, Leg, moving, factor, run, Slab, slab, held, enters, leaves}
 use Rattle.ray.specs.declared.Grid.{Grid}
 use Rattle.ray.specs.declared.Ray.{Ray}
 
@@ -45,7 +45,7 @@ count v = v X .n * v Y .n * v Z .n
 
 -- a box lies between two planes of each axis: the whole array; a voxel
 abbrev pub array : Volume → Side → Slab
-array v s = record { lo = v s .at 0; hi = v s .at (v s .n) }
+array v s = slab (v s) 0 (v s .n)
 
 -- RULES 1: the indices i, j, k of a voxel number
 abbrev pub index : Volume → ℕ → Side → ℕ
@@ -54,10 +54,9 @@ index v m Y = m / v X .n % v Y .n
 index v m Z = m / v X .n / v Y .n
 
 abbrev pub voxel : Volume → ℕ → Side → Slab
-voxel v m s = record { lo = v s .at (index v m s); hi = v s .at (index v m s + 1) }
+voxel v m s = slab (v s) (index v m s) (index v m s + 1)
 
--- RULES 3: whether every still axis holds the ray; enter and leave times D. For the array's box they are αmin and αmax,
--- equation (5) (RULES 4).
+-- RULES 3: whether every still axis holds the ray; enter and leave times D, which for the array are αmin and αmax, equation (5) (RULES 4)
 abbrev pub holds : Ray → (Side → Slab) → Bool
 holds r b = held (leg r X) (b X) && (held (leg r Y) (b Y) && held (leg r Z) (b Z))
 
@@ -101,9 +100,7 @@ sumOf v r densities = total (λ m. partOf v r m * getD densities m 0) (count v)
 
 -- RULES 4, planes crossed: on a moving axis, above αmin and below αmax; each counted for its axis, and none on a miss
 unfoldable pub crosses : Volume → Ray → Side → ℕ → Bool
-crosses v r s i =
-    let α : ℕ = run (leg r s) (v s .at i) * rest r s in
-    moving (leg r s) && (ltb (start r (array v)) α && ltb α (stop r (array v)))
+crosses v r s i = let α : ℕ = run (leg r s) (v s .at i) * rest r s in moving (leg r s) && (ltb (start r (array v)) α && ltb α (stop r (array v)))
 
 unfoldable pub crossedOf : Volume → Ray → ℕ
 crossedOf v r = let on : Side → ℕ = λ s. total (λ i. cond (crosses v r s i) 1 0) (v s .n + 1) in cond (misses v r) 0 (on X + on Y + on Z)

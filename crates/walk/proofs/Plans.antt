@@ -11,6 +11,7 @@ use Rattle.axis.specs.Leg.{factor}
 use Rattle.axis.proofs.Flag.{or-left, or-right}
 use Rattle.ray.specs.Length.{Side, X, Y, Z, leg, rest, dOf, array, holds, misses, partOf, crosses, crossedOf}
 use Rattle.ray.proofs.Capped.{rest-pos}
+use Rattle.ray.proofs.Tests.{all-of}
 use Rattle.ray.proofs.Way.{Way, up, down, still, Goes}
 use Rattle.line.specs.declared.line.Line.{Line}
 use Rattle.line.specs.declared.scene.Scene.{Scene}
@@ -20,7 +21,7 @@ use Rattle.line.proofs.Three.{each, most-le, le-most, least-le, most-mono}
 use Rattle.line.proofs.Stretch.{going, enter-whole}
 use Rattle.line.proofs.Steps.{stride}
 use Rattle.line.proofs.Sizes.{two-sizes, three-sizes, factor-size}
-use Rattle.line.proofs.Scenes.{way, leg-is, leave, all-held, fromOf, toOf, enterIn, enterAll, leaveAll}
+use Rattle.line.proofs.Scenes.{way, leg-is, leave, fromOf, toOf, enterIn, enterAll, leaveAll}
 use Rattle.walk.specs.declared.steps.Walk.{Walk}
 use Rattle.walk.specs.declared.steps.Strides.{Strides}
 use Rattle.walk.specs.declared.plan.Frame.{Frame}
@@ -77,7 +78,7 @@ module _ {s : Scene} (able : Able s) where
       pub windows : (o : Side) (t : ℕ) → f .from ≤ t → t < f .to → Window (line s o) (restOf f o) t
       windows o t a b = rw (framed .rests o) (record {
         some = rest-pos (rayOf s) o;
-        holds = all-held (λ x. heldAt (line s x) 0 (line s x .n)) held-all o;
+        holds = all-of (λ x. heldAt (line s x) 0 (line s x .n)) held-all o;
         since = le-trans (le-most (enterAll s) o) (rw (framed .from-is) at a);
         until = lt-of-lt-of-le (under-least (dOf (rayOf s)) t _ (rw (framed .to-is) at b)) (least-le (leaveAll s) o);
       })

@@ -1,10 +1,12 @@
 use Prim.Native.Nat.{_*_, _^_, _≤_}
-use mathlib.Core.Path.{_≡_, _∙_}
+use mathlib.Core.Path.{_≡_, sym, _∙_}
+use mathlib.Core.Bool.{true}
 use native.Mathlib.Omega.{arith}
 use Rattle.axis.specs.Leg.{Slab, enters, leaves, held}
 use Rattle.line.specs.declared.line.Line.{Line}
 use Rattle.line.specs.Scene.{legN, slabN, plane, entersAt, leavesAt}
 use Rattle.line.proofs.Units.{slab-same}
+use Rattle.line.proofs.Stretch.{held-array}
 use Rattle.line.proofs.Sizes.{enter-ticks, leave-ticks}
 use borrow.Author.Needs.{needs}
 use Rattle.line.proofs.line.Line.reach.Statement.{statement}
@@ -19,7 +21,7 @@ module _ (c : tie.After-held) where
   a = start .args .self
 
   -- the two planes are those that the code asked for
-  between : {A : Type 0} (f : Slab → A) → f (slabN (c .before .before .before .before .plane .result) (c .before .before .before .plane2 .result)) ≡ f (slabN (plane a 0) (plane a (a .n)))
+  between : {A : Type 0} (f : Slab → A) → f (slabN (c .before .before .before .before .plane .result) (c .before .before .before .plane2 .result) true) ≡ f (slabN (plane a 0) (plane a (a .n)) true)
   between f = slab-same f (c .before .before .before .before .plane .ensures) (c .before .before .before .plane2 .ensures)
 
   enters-so : c .before .before .enter .result * start .args .c ≡ entersAt a (start .args .c) 0 (a .n)
@@ -59,7 +61,7 @@ returns : tie.Need-returns
 returns c = record {
   from-is = enters-so c;
   to-is = leaves-so c;
-  held-is = c .held .ensures ∙ between c (held (legN (a c .p) (a c .q)));
+  held-is = c .held .ensures ∙ between c (held (legN (a c .p) (a c .q))) ∙ sym (held-array (a c));
   from-size = omega (arith, enters-so c, enter-few c);
   to-size = omega (arith, leaves-so c, leave-few c);
 }
