@@ -18,8 +18,8 @@ import machine
 from source import Item, Source, expanded, items, unused
 from tally import Tally
 
-PROMISES, DECISIONS, RULES = "docs/PROMISES.md", "docs/DECISIONS.md", "docs/RULES.md"
-DOCUMENTS = ("README.md", PROMISES, DECISIONS, "docs/PROVING.md", RULES)
+PROMISES, DECISIONS, RULES, EQUATIONS = "docs/PROMISES.md", "docs/DECISIONS.md", "docs/RULES.md", "docs/EQUATIONS.md"
+DOCUMENTS = ("README.md", PROMISES, DECISIONS, "docs/PROVING.md", RULES, EQUATIONS)
 CUSTOMER = ("axis", "ray", "tracing", "place", "ilvoresta")  # the crates that a customer calls, beside job::whole
 
 TOKEN = re.compile(r"`([^`]+)`(:(?!:))?|\||[.!?](?=[\s)]|$)")
@@ -255,6 +255,16 @@ def cited(text: str, rules: str) -> Iterator[Found]:
         yield Found(False, cite.start(), cite[0], f"stands there, where {RULES} is to be cited")
 
 
+def numbered(source: Source, equations: str) -> Iterator[Found]:
+    """Each equation of the table has its number in a comment of every file in its third cell."""
+    for at, cells in rows(equations):
+        if number := re.fullmatch(r"\s*(\(\d+\))\s*", cells[0]):
+            files = [name for span in spans(cells[2]) for name in source.at(span.words)]
+            for name in files or ("none",):
+                good = bool(files) and re.search(rf"(?://|--).*{re.escape(number[1])}", source.text(name)) is not None
+                yield Found(good, at, f"{number[1]} {name}", "has no comment with that number")
+
+
 # ---- the check itself
 
 
@@ -294,6 +304,9 @@ def self_test(source: Source, tally: Tally, promises: str, decisions: str) -> No
     }
     dead = [law for law, _ in unused(laws_of)]
     tally.check(dead == ["own", "idle", "end"], f"of laws that use themselves, are imported and are used are told as unused {dead}")
+    table = "".join(f"| ({number}) | | `crates/line/src/quotient.rt` |\n" for number in (12, 14))
+    wrong = [found.name for found in numbered(source, table) if not found.good]
+    tally.check(wrong == ["(14) crates/line/src/quotient.rt"], f"of {table!r} is told {wrong}")
     old = "document 0" + "1"
     sample = f"RULES {2} and {3.4}, RULES\n-- {5}. By {old} [a file](none.md)"
     told_of = [*cited(sample, "## 2. Two\n### 3.4 Four\n"), *linked(source, PROMISES, sample)]
@@ -321,6 +334,7 @@ def main() -> None:
     look(PROMISES, called(source, promises, decisions))
     look(PROMISES, [counted(promises)])
     look(DECISIONS, shapes(source, decisions))
+    look(EQUATIONS, numbered(source, source.text(EQUATIONS)))
     rules = source.text(RULES) if RULES in source.files else ""
     for name in source.files:
         look(name, cited(source.text(name), rules))

@@ -16,6 +16,7 @@ const SPACING: i32 = 100;
 const FACE: i32 = N as i32 * SPACING / 2;
 const OUT: i32 = FACE + 1000;
 const RAYS: usize = 200;
+const SHORT: usize = 20_000;
 const ROUNDS: usize = 15;
 
 /// The four space diagonals, both ways, from corner to corner: all three planes are crossed at once, everywhere.
@@ -24,13 +25,19 @@ fn corners() -> Vec<Ray> {
     ends.map(|p| Ray { p, q: p.map(|c| -c) }).cycle().take(RAYS).collect()
 }
 
-/// Rays from beyond one face to beyond the opposite one, their ends spread over the faces by a fixed rule.
-fn oblique() -> Vec<Ray> {
+/// Numbers spread over 0 to below `most` by a fixed rule.
+fn spreading() -> impl FnMut(i32) -> i32 {
     let mut state = 1_u32;
-    let mut spread = move || {
+    move |most| {
         state = state.wrapping_mul(1_664_525).wrapping_add(1_013_904_223);
-        (state >> 8) as i32 % (2 * FACE) - FACE
-    };
+        (state >> 8) as i32 % most
+    }
+}
+
+/// Rays from beyond one face to beyond the opposite one, their ends spread over the faces.
+fn oblique() -> Vec<Ray> {
+    let mut number = spreading();
+    let mut spread = move || number(2 * FACE) - FACE;
     let mut made = Vec::new();
     while made.len() < RAYS {
         let (axis, side) = (made.len() % 3, if made.len() % 2 == 0 { OUT } else { -OUT });
@@ -38,6 +45,20 @@ fn oblique() -> Vec<Ray> {
         (ray.p[axis], ray.q[axis]) = (side, -side);
         if (0..3).all(|a| ray.p[a] != ray.q[a]) {
             made.push(ray);
+        }
+    }
+    made
+}
+
+/// Rays with both ends inside one voxel, any voxel: hardly more than the cost of setting out.
+fn short() -> Vec<Ray> {
+    let mut number = spreading();
+    let mut made = Vec::new();
+    while made.len() < SHORT {
+        let near = [(); 3].map(|()| number(N as i32) * SPACING - FACE);
+        let [p, q] = [(); 2].map(|()| near.map(|c| c + number(SPACING)));
+        if (0..3).all(|a| p[a] != q[a]) {
+            made.push(Ray { p, q });
         }
     }
     made
@@ -80,15 +101,15 @@ fn main() {
         ("merge and midpoint, f64", Box::new(Merge::new(&grid))),
         ("incremental walk, f64", Box::new(Step::new(&grid))),
     ];
-    println!("{N} x {N} x {N} voxels of equal density, {RAYS} rays, best of {ROUNDS} rounds");
-    for (name, rays) in [("corner to corner", corners()), ("oblique", oblique())] {
+    println!("{N} x {N} x {N} voxels of equal density, best of {ROUNDS} rounds");
+    for (name, rays) in [("corner to corner", corners()), ("oblique", oblique()), ("in one voxel", short())] {
         agree(&mut methods, &grid, &rays, &densities);
         let times = best(&mut methods, &grid, &rays, &densities);
-        println!("{name}:");
+        println!("{name}, {} rays:", rays.len());
         for ((method, _), time) in methods.iter().zip(&times) {
             let seconds = time.as_secs_f64();
             let ratio = times[0].as_secs_f64() / seconds;
-            println!("  {method:25}{:10.0} traces/s   time of the proved one over it: {ratio:.2}", RAYS as f64 / seconds);
+            println!("  {method:25}{:10.0} traces/s   time of the proved one over it: {ratio:.2}", rays.len() as f64 / seconds);
         }
     }
 }

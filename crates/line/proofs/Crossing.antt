@@ -1,10 +1,10 @@
 -- An axis' planes that the ray crosses between two ticks are those between the voxels of the first tick and of the last. Assumes nothing.
-use Prim.Native.Nat.{ℕ, zero, suc, _+_, _-_, _*_, _≤_, _<_, min}
+use Prim.Native.Nat.{ℕ, zero, suc, _+_, _-_, _≤_, _<_, min}
 use mathlib.Core.Path.{_≡_, refl, sym, ap, _∙_}
 use mathlib.Core.Bool.{Bool, true, false, _&&_, not, cond}
 use native.Mathlib.Omega.{arith}
 use native.Mathlib.Decide.{decLe, decLt}
-use native.Mathlib.Nat.{mul-le-mul-right, zero-mul}
+use native.Mathlib.Nat.{zero-mul}
 use lib.Dec.{ltb}
 use borrow.Author.Tests.{lt-ltb, le-ltb}
 use Rattle.ray.specs.Length.{total}
@@ -14,7 +14,9 @@ use Rattle.line.specs.Scene.{plane, Sized, Within}
 use Rattle.line.specs.Reach.{crossAt, crossedOn}
 use Rattle.ray.proofs.Way.{Way, up, down, still, Goes}
 use Rattle.line.proofs.Units.{moves, stays, run-up, run-down}
-use Rattle.line.proofs.Stretch.{plane-mono, wayOf, going, enter-voxel, leave-voxel, one-voxel}
+use Rattle.line.specs.Beyond.{beyond}
+use Rattle.line.proofs.Beyond.{beyondBy, beyond-by, up-key, down-key, up-rise, down-fall}
+use Rattle.line.proofs.Stretch.{wayOf, going, enter-voxel, leave-voxel, one-voxel}
 
 -- ---- the numbers above lo and not above hi, counted
 band : (lo hi n : ℕ) → total (λ i. cond (ltb lo i && not (ltb hi i)) 1 0) n ≡ min (hi + 1) n - (lo + 1)
@@ -57,18 +59,6 @@ turned false true = refl
 turned false false = refl
 
 module _ (a : Line) (c : ℕ) where
-  abbrev up-key : ℕ → ℕ
-  up-key m = (plane a m - a .p) * c
-
-  abbrev down-key : ℕ → ℕ
-  down-key m = (a .p - plane a m) * c
-
-  pub up-rise : (m n : ℕ) → m ≤ n → up-key m ≤ up-key n
-  up-rise m n h = mul-le-mul-right c (omega (arith, plane-mono a h))
-
-  pub down-fall : (m n : ℕ) → m ≤ n → down-key n ≤ down-key m
-  down-fall m n h = mul-le-mul-right c (omega (arith, plane-mono a h))
-
   -- a still ray is in its voxel from the start
   all-along : Goes still (a .p) (a .q) → (i t : ℕ) → Within a c t i → Within a c 0 i
   all-along g i t v = record { inside = v .inside; holds = v .holds; since = omega (arith, enter-voxel a c still g i, zero-mul c); until = omega (arith, v .until) }
@@ -78,24 +68,39 @@ module _ (a : Line) (c : ℕ) where
     before : (x : ℕ) → ltb x to ≡ not (ltb (to - 1) x)
     before x = elim (decLt x to) [ yes k ↦ rw (lt-ltb x to k, le-ltb (to - 1) x (omega arith)) | no k ↦ rw (le-ltb x to (omega arith), lt-ltb (to - 1) x (omega arith)) ]
 
+    still-same : Goes still (a .p) (a .q) → i ≡ j
+    still-same g = one-voxel a sized c 0 (all-along g i from wi) (all-along g j (to - 1) wj)
+
     crossed-by : (w : Way) → Goes w (a .p) (a .q) → crossedOn a c from to ≡ (i - j) + (j - i)
     crossed-by up g =
-        let first = above up-key up-rise from i (omega (arith, enter-voxel a c up g i, wi .since)) (omega (arith, leave-voxel a c up g i, wi .until)) in
-        let last = above up-key up-rise (to - 1) j (omega (arith, enter-voxel a c up g j, wj .since)) (omega (arith, leave-voxel a c up g j, wj .until)) in
-        let order : i ≤ j = elim (decLe i j) [ yes k ↦ k | no k ↦ absurd (omega (arith, enter-voxel a c up g i, wi .since, leave-voxel a c up g j, wj .until, up-rise (j + 1) i (omega arith))) ] in
+        let first = above (up-key a c) (up-rise a c) from i (omega (arith, enter-voxel a c up g i, wi .since)) (omega (arith, leave-voxel a c up g i, wi .until)) in
+        let last = above (up-key a c) (up-rise a c) (to - 1) j (omega (arith, enter-voxel a c up g j, wj .since)) (omega (arith, leave-voxel a c up g j, wj .until)) in
+        let order : i ≤ j = elim (decLe i j) [ yes k ↦ k | no k ↦ absurd (omega (arith, enter-voxel a c up g i, wi .since, leave-voxel a c up g j, wj .until, up-rise a c (j + 1) i (omega arith))) ] in
         counted (crossAt a c from to) i j (a .n + 1) (omega (arith, wj .inside))
-        (λ m. rw (moves (a .p) (a .q) (omega arith), run-up (a .p) (a .q) (plane a m) g, first m, before (up-key m), last m) refl)
+        (λ m. rw (moves (a .p) (a .q) (omega arith), run-up (a .p) (a .q) (plane a m) g, first m, before (up-key a c m), last m) refl)
         ∙ omega arith
     crossed-by down g =
-        let first = above-down down-key down-fall from i (omega (arith, enter-voxel a c down g i, wi .since)) (omega (arith, leave-voxel a c down g i, wi .until)) in
-        let last = above-down down-key down-fall (to - 1) j (omega (arith, enter-voxel a c down g j, wj .since)) (omega (arith, leave-voxel a c down g j, wj .until)) in
-        let order : j ≤ i = elim (decLe j i) [ yes k ↦ k | no k ↦ absurd (omega (arith, enter-voxel a c down g i, wi .since, leave-voxel a c down g j, wj .until, down-fall (i + 1) j (omega arith))) ] in
+        let first = above-down (down-key a c) (down-fall a c) from i (omega (arith, enter-voxel a c down g i, wi .since)) (omega (arith, leave-voxel a c down g i, wi .until)) in
+        let last = above-down (down-key a c) (down-fall a c) (to - 1) j (omega (arith, enter-voxel a c down g j, wj .since)) (omega (arith, leave-voxel a c down g j, wj .until)) in
+        let order : j ≤ i = elim (decLe j i) [ yes k ↦ k | no k ↦ absurd (omega (arith, enter-voxel a c down g i, wi .since, leave-voxel a c down g j, wj .until, down-fall a c (i + 1) j (omega arith))) ] in
         counted (crossAt a c from to) j i (a .n + 1) (omega (arith, wi .inside))
-        (λ m. rw (moves (a .p) (a .q) (omega arith), run-down (a .p) (a .q) (plane a m) g, first m, before (down-key m), last m) (turned (ltb i m) (ltb j m)))
+        (λ m. rw (moves (a .p) (a .q) (omega arith), run-down (a .p) (a .q) (plane a m) (omega arith), first m, before (down-key a c m), last m) (turned (ltb i m) (ltb j m)))
         ∙ omega arith
     crossed-by still g =
-        let same : i ≡ j = one-voxel a sized c 0 (all-along g i from wi) (all-along g j (to - 1) wj) in
+        let same = still-same g in
         total-zero (λ m. cond (crossAt a c from to m) 1 0) (a .n + 1) (λ m k. rw (stays (a .p) (a .q) g) refl) ∙ omega arith
 
     pub crossed-is : (i - j) + (j - i) ≡ crossedOn a c from to
     crossed-is = sym (crossed-by (wayOf a) (going a))
+
+    -- and between the planes by which the two voxels are left
+    beyond-apart : (w : Way) → Goes w (a .p) (a .q) → (beyondBy w i - beyondBy w j) + (beyondBy w j - beyondBy w i) ≡ (i - j) + (j - i)
+    beyond-apart up g = omega arith
+    beyond-apart down g = refl
+    beyond-apart still g = omega (arith, still-same g)
+
+    pub crossed-beyond : (beyond a i - beyond a j) + (beyond a j - beyond a i) ≡ crossedOn a c from to
+    crossed-beyond =
+        let by = beyond-by a (wayOf a) (going a) in
+        ap (λ (x : ℕ). (x - beyond a j) + (beyond a j - x)) (by i) ∙ ap (λ (x : ℕ). (beyondBy (wayOf a) i - x) + (x - beyondBy (wayOf a) i)) (by j)
+        ∙ beyond-apart (wayOf a) (going a) ∙ crossed-is

@@ -8,9 +8,11 @@ use native.Mathlib.Omega.{arith}
 use Rattle.axis.proofs.Once.{once}
 use Rattle.line.specs.declared.line.Line.{Line}
 use Rattle.line.specs.declared.reach.Reach.{Reach}
-use Rattle.line.specs.Scene.{Sized, Within}
+use Rattle.line.specs.Scene.{Sized, Window, Within}
 use Rattle.line.specs.Reach.{Reached}
+use Rattle.line.specs.Beyond.{First}
 use Rattle.line.proofs.Stretch.{one-voxel}
+use Rattle.line.proofs.Rounded.{voxel-of}
 
 -- `enter` and `leave`
 pub units-once : (ticks : ℕ → ℕ) (r r′ : ℕ) → ((rest : ℕ) → r * rest ≡ ticks rest) → ((rest : ℕ) → r′ * rest ≡ ticks rest) → r ≡ r′
@@ -32,3 +34,7 @@ jump-once p q unit r r′ x y = elim (decLt p q) [
 -- `index`
 pub index-once : (a : Line) (c t i j : ℕ) → Sized a → Within a c t i → Within a c t j → i ≡ j
 index-once a c t i j sized = one-voxel a sized c t
+
+-- `ahead`
+pub ahead-once : (a : Line) (c t i j : ℕ) → Sized a → Window a c t → First a c t i → First a c t j → i ≡ j
+ahead-once a c t i j sized window x y = let v = voxel-of a c t window sized in once (x .ahead (v .0) (v .1)) (y .ahead (v .0) (v .1))

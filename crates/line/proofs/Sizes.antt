@@ -1,12 +1,15 @@
 -- Every product of a scene's numbers fits 64 bits. Assumes nothing.
 use Prim.Native.Nat.{ℕ, _*_, _^_, _≤_, _<_}
 use native.Mathlib.Omega.{arith}
+use native.Mathlib.Decide.{decLt}
 use native.Mathlib.Nat.{mul-le-mul}
-use Rattle.axis.specs.Leg.{factor}
+use lib.IntN.{pos}
+use Rattle.axis.specs.Leg.{factor, run}
 use Rattle.line.specs.declared.line.Line.{Line}
 use Rattle.line.specs.Scene.{legN, plane, Sized, entersAt, leavesAt}
+use Rattle.line.specs.Reach.{meetsAt}
 use Rattle.ray.proofs.Way.{Way, up, down, still, way as goes, factorBy}
-use Rattle.line.proofs.Units.{enterBy, leaveBy, factor-is}
+use Rattle.line.proofs.Units.{enterBy, leaveBy, factor-is, run-up, run-down}
 use Rattle.line.proofs.Stretch.{plane-mono, wayOf, going, enters-by, leaves-by}
 
 pub two-sizes : {f g : ℕ} → f ≤ 2 ^ 20 → g ≤ 2 ^ 20 → f * g ≤ 2 ^ 40
@@ -14,6 +17,10 @@ two-sizes h k = mul-le-mul {n₂ = 2 ^ 20} {m₂ = 2 ^ 20} h k
 
 pub three-sizes : {f c : ℕ} → f ≤ 2 ^ 20 → c ≤ 2 ^ 40 → f * c ≤ 2 ^ 60
 three-sizes h k = mul-le-mul {n₂ = 2 ^ 20} {m₂ = 2 ^ 40} h k
+
+-- the same in half ticks, for the middle of a stretch: two such terms together are below 2^63
+pub half-sizes : {f k : ℕ} → f ≤ 2 ^ 20 → k ≤ 2 ^ 41 → f * k ≤ 2 ^ 61
+half-sizes h k = mul-le-mul {n₂ = 2 ^ 20} {m₂ = 2 ^ 41} h k
 
 -- a difference is no more than any bound of both ends
 pub factor-most : (p q most : ℕ) → p ≤ most → q ≤ most → 0 < most → factor (legN p q) ≤ most
@@ -44,3 +51,12 @@ module _ (a : Line) (sized : Sized a) where
 
     pub leave-ticks : {c : ℕ} → c ≤ 2 ^ 40 → leavesAt a c i j ≤ 2 ^ 60
     leave-ticks {c} few = rw (leaves-by a c (wayOf a) (going a) i j h) (three-sizes (leave-by (wayOf a)) few)
+
+  run-size : (x : ℕ) → x ≤ 2 ^ 20 → run (legN (a .p) (a .q)) (pos x) ≤ 2 ^ 20
+  run-size x few = elim (decLt (a .p) (a .q)) [
+    | yes g ↦ omega (arith, run-up (a .p) (a .q) x g)
+    | no g ↦ omega (arith, run-down (a .p) (a .q) x (omega arith), sized .p-size)
+  ]
+
+  pub meet-ticks : {i c : ℕ} → i ≤ a .n → c ≤ 2 ^ 40 → meetsAt a c i ≤ 2 ^ 60
+  meet-ticks {i} h few = three-sizes (run-size (plane a i) (omega (arith, plane-mono a h, sized .far-size))) few

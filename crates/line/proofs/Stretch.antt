@@ -7,10 +7,11 @@ use mathlib.Core.Logic.{⊎-elim}
 use native.Mathlib.Omega.{arith}
 use native.Mathlib.Decide.{decLt}
 use native.Mathlib.Nat.{le-of-eq, mul-le-mul-right, mul-lt-mul-of-pos-right, lt-of-mul-lt-mul-right, add-mul, one-mul, zero-mul, mul-zero}
-use borrow.Author.Tests.{eq-eqb, ne-eqb}
+use borrow.Author.Tests.{eq-eqb, ne-eqb, lt-ltb, le-ltb}
 use Rattle.line.specs.declared.line.Line.{Line}
 use Rattle.axis.specs.Leg.{slab, held}
 use Rattle.line.specs.Scene.{legN, slabN, plane, planesOf, Sized, entersAt, leavesAt, heldAt, Within}
+use Rattle.line.specs.Beyond.{byWay}
 use Rattle.ray.proofs.Way.{Way, up, down, still, Goes, way as goes}
 use Rattle.line.proofs.Units.{enterBy, leaveBy, HeldBy, enters-is, leaves-is, held-by, by-held, enter-within, leave-within, held-within, apart}
 
@@ -27,6 +28,16 @@ wayOf a = goes (a .p) (a .q) .0
 
 pub going : (a : Line) → Goes (wayOf a) (a .p) (a .q)
 going a = goes (a .p) (a .q) .1
+
+abbrev pub pick : Way → (x y z : ℕ) → ℕ
+pick up x y z = x
+pick down x y z = y
+pick still x y z = z
+
+pub way-is : (a : Line) (w : Way) → Goes w (a .p) (a .q) → (x y z : ℕ) → byWay a x y z ≡ pick w x y z
+way-is a up g x y z = rw (lt-ltb (a .p) (a .q) g) refl
+way-is a down g x y z = rw (le-ltb (a .p) (a .q) (omega arith), lt-ltb (a .q) (a .p) g) refl
+way-is a still g x y z = rw (le-ltb (a .p) (a .q) (omega arith), le-ltb (a .q) (a .p) (omega arith)) refl
 
 module _ (a : Line) (c : ℕ) (w : Way) (g : Goes w (a .p) (a .q)) where
   module _ (i j : ℕ) (h : i ≤ j) where

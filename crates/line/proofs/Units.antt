@@ -40,9 +40,12 @@ HeldBy up closed p lo hi = Unit {0}
 HeldBy down closed p lo hi = Unit {0}
 HeldBy still closed p lo hi = (lo ≤ p) × Upto closed p hi
 
+pub diff-ge : (a b : ℕ) → b ≤ a → pos a -ℤ pos b ≡ pos (a - b)
+diff-ge a zero h = ap pos (omega arith)
+diff-ge a (suc b) h = sub-ge a (suc b) h
+
 abs-diff : (a b : ℕ) → b ≤ a → natAbs (pos a -ℤ pos b) ≡ a - b
-abs-diff a zero h = omega arith
-abs-diff a (suc b) h = rw (sub-ge a (suc b) h) refl
+abs-diff a b h = ap natAbs (diff-ge a b h)
 
 abs-diff′ : (a b : ℕ) → a < b → natAbs (pos a -ℤ pos b) ≡ b - a
 abs-diff′ a zero h = absurd (omega arith)
@@ -62,11 +65,11 @@ factor-is up p q g = rw (lt-ltb p q g) (abs-diff q p (omega arith))
 factor-is down p q g = rw (le-ltb p q (omega arith), lt-ltb q p g) (abs-diff′ q p g)
 factor-is still p q g = rw (le-ltb p q (omega arith), le-ltb q p (omega arith)) refl
 
--- how far along a place is, on a moving axis
+-- how far along a place is
 pub run-up : (p q x : ℕ) → p < q → run (legN p q) (pos x) ≡ x - p
 run-up p q x g = rw (lt-ltb p q g) (natural-diff x p)
 
-pub run-down : (p q x : ℕ) → q < p → run (legN p q) (pos x) ≡ p - x
+pub run-down : (p q x : ℕ) → q ≤ p → run (legN p q) (pos x) ≡ p - x
 run-down p q x g = rw (le-ltb p q (omega arith)) (natural-diff p x)
 
 pub enters-is : (w : Way) (p q lo hi rest : ℕ) → Goes w p q → lo ≤ hi → enters rest (legN p q) (slabN lo hi true) ≡ enterBy w p lo hi * rest

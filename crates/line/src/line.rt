@@ -4,7 +4,7 @@ ghost use mathlib.Core.Bool.{true};
 ghost use Prim.Native.Nat.{ℕ, _+_, _*_, _^_, _≤_, _<_};
 ghost use lib.IntN.{pos};
 ghost use Rattle.axis.specs.Leg.{factor, run, enters, leaves, held};
-ghost use Rattle.line.specs.Scene.{legN, slabN, plane, Sized, Window, Within};
+ghost use Rattle.line.specs.Scene.{legN, slabN, plane, Sized};
 use crate::extremes::least;
 use crate::extremes::most;
 
@@ -30,7 +30,7 @@ impl Line {
         1
     }
 
-    // How far along the ray the place c is, 0 where it lies behind the start.
+    // Equation (4) for a plane at c, in units: α times the difference of the ends, and 0 where the plane lies behind the start.
     pub fn run(self, c: u64) -> u64
         ensures { λ r. ⌜ r ≡ run (legN (self .p) (self .q)) (pos c) ⌝ }
     {
@@ -73,28 +73,12 @@ impl Line {
         }
     }
 
+    // Equation (3), counted from 0.
     pub fn plane(self, i: u64) -> u64
         requires { ⌜ Sized self × (i ≤ self .n) ⌝ }
         ensures { λ r. ⌜ r ≡ plane self i ⌝ }
     {
         self.b + i * self.d
-    }
-
-    // The voxel of the axis that the ray is in from the tick t on, in ticks of c to a unit: by one division, with no scan. In the far
-    // face the quotient of a still axis is one too high.
-    pub fn index(self, c: u64, t: u64) -> u64
-        requires { ⌜ Sized self ⌝ }
-        requires { ⌜ Window self c t ⌝ }
-        ensures { λ r. ⌜ Within self c t r ⌝ }
-    {
-        let g = t / c;
-        if self.p < self.q {
-            return (self.p + g - self.b) / self.d;
-        }
-        if self.q < self.p {
-            return (self.p - g - 1 - self.b) / self.d;
-        }
-        least((self.p - self.b) / self.d, self.n - 1)
     }
 
     // What one voxel on, in the way of the ray, adds to the number modulo 2^64, where a voxel of the axis counts unit.

@@ -1,9 +1,8 @@
 // One axis against the whole array, in ticks: c ticks to a unit.
 ghost use mathlib.Core.Path.{_≡_};
-ghost use Prim.Native.Nat.{_+_, _-_, _^_, _≤_, _<_};
-ghost use Rattle.line.specs.Scene.{leavesAt, Sized, Window};
-ghost use Rattle.line.specs.Reach.{Reached, crossedOn};
-use crate::extremes::apart;
+ghost use Prim.Native.Nat.{_^_, _≤_};
+ghost use Rattle.line.specs.Scene.{Sized};
+ghost use Rattle.line.specs.Reach.{Reached, leftAt};
 use crate::line::Line;
 
 // Where the ray comes in and goes out on the axis, and whether a still axis holds it.
@@ -14,6 +13,8 @@ pub struct Reach {
 }
 
 impl Line {
+    // Equation (4) for the first plane and the far one, and the lesser and the greater α as equation (5) takes them. Units are
+    // α times |q - p| and D is c |q - p|, so α times D is c times the units. A still axis leaves all of it, 0 to D.
     pub fn reach(self, c: u64) -> Reach
         requires { ⌜ Sized self × (c ≤ 2 ^ 40) ⌝ }
         ensures { λ r. ⌜ Reached self c r ⌝ }
@@ -30,27 +31,17 @@ impl Line {
         }
     }
 
-    // The tick at which the ray leaves voxel i.
+    // The tick at which the ray leaves a voxel by plane i: equation (4), times D. A still axis is left by no plane, and leaves the ray
+    // whole: c is D there.
     pub fn leave_tick(self, c: u64, i: u64) -> u64
-        requires { ⌜ Sized self × (c ≤ 2 ^ 40) × (i < self .n) ⌝ }
-        ensures { λ r. ⌜ r ≡ leavesAt self c i (i + 1) ⌝ }
+        requires { ⌜ Sized self × (c ≤ 2 ^ 40) × (i ≤ self .n) ⌝ }
+        ensures { λ r. ⌜ r ≡ leftAt self c i ⌝ }
         ensures { λ r. ⌜ r ≤ 2 ^ 60 ⌝ }
     {
-        let lo = self.plane(i);
-        let hi = self.plane(i + 1);
-        self.leave(lo, hi) * c
-    }
-
-    // How many planes the ray crosses after the tick `from` and before the tick `to`: as many as lie between the voxels of the
-    // first tick and of the last.
-    pub fn crossed(self, c: u64, from: u64, to: u64) -> u64
-        requires { ⌜ Sized self × (from < to) ⌝ }
-        requires { ⌜ Window self c from × Window self c (to - 1) ⌝ }
-        ensures { λ r. ⌜ r ≡ crossedOn self c from to ⌝ }
-        ensures { λ r. ⌜ r ≤ 2 ^ 9 ⌝ }
-    {
-        let i = self.index(c, from);
-        let j = self.index(c, to - 1);
-        apart(i, j)
+        if self.p == self.q {
+            return c;
+        }
+        let at = self.plane(i);
+        self.run(at) * c
     }
 }

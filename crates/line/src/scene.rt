@@ -55,6 +55,7 @@ fn square(a: Line) -> u64
     gap * gap
 }
 
+// Equation (11) without its root.
 pub fn squared_of(s: Scene) -> u64
     requires { ⌜ Able s ⌝ }
     ensures { λ r. ⌜ r ≡ squaredOf (rayOf s) ⌝ }

@@ -7,17 +7,12 @@ use native.Mathlib.Decide.{decLe}
 use lib.IntN.{ℤ, pos, negℤ, natAbs, _+ℤ_, _-ℤ_, _*ℤ_, +ℤ-assoc, +ℤ-comm, +ℤ-negℤ-cancel, -ℤ-+ℤ-cancel, *ℤ-comm}
 use lib.Signed.{leZ}
 use lib.Dec.{T, le→leb}
-use borrow.Author.Tests.{le-ltb}
 use Rattle.axis.specs.Leg.{Leg}
 use Rattle.axis.proofs.Shift.{shift, Low, shift-is}
 use Rattle.ray.proofs.MovedAxis.{le-on, diff-on}
 use Rattle.ray.proofs.Through.{sub-times}
 use Rattle.ray.proofs.Told.{neg-diff}
-use Rattle.line.proofs.Units.{abs-gap}
-
-diff-ge : (a b : ℕ) → b ≤ a → pos a -ℤ pos b ≡ pos (a - b)
-diff-ge a zero h = ap pos (omega arith)
-diff-ge a (suc b) h = rw (le-ltb a (suc b) h)
+use Rattle.line.proofs.Units.{diff-ge, abs-gap}
 
 diff-le : (a b : ℕ) → a ≤ b → pos a -ℤ pos b ≡ negℤ (pos (b - a))
 diff-le a b h = sym (neg-diff (pos b) (pos a)) ∙ ap negℤ (diff-ge b a h)

@@ -4,9 +4,9 @@ use Prim.Native.Nat.{ℕ, _≤_}
 use mathlib.Core.Path.{_≡_, refl, ap, _∙_}
 use mathlib.Core.Bool.{false}
 use native.Mathlib.Nat.{le-trans, le-of-lt}
-use lib.IntN.{ℤ, pos, _+ℤ_, _-ℤ_, _*ℤ_}
+use lib.IntN.{ℤ}
 use lib.Ieee.{Float}
-use Rattle.axis.specs.Leg.{Leg, natural, Slab}
+use Rattle.axis.specs.Leg.{natural, Slab}
 use Rattle.axis.specs.declared.Limits.{Limits}
 use Rattle.ray.specs.declared.Grid.{Grid}
 use Rattle.ray.specs.declared.Ray.{Ray}
@@ -14,7 +14,7 @@ use Rattle.ray.specs.Length.{Side, X, Y, Z, leg, dOf, volume, array, misses}
 use Rattle.ray.proofs.Accepted.{ends-inside}
 use Rattle.ray.proofs.Capped.{stop-cap}
 use Rattle.ray.proofs.Fraction.{Fraction, Is, at, least0}
-use Rattle.ray.proofs.Formula.{αmin, αmax, αmin-is}
+use Rattle.ray.proofs.Formula.{along, αmin, αmax, αmin-is}
 use Rattle.ray.proofs.HitOrMiss.{αmax-hit, ahead}
 use Rattle.place.specs.declared.Place.the-variants as place
 use Rattle.place.specs.declared.Point.{Point}
@@ -26,10 +26,6 @@ use Rattle.place.proofs.OnLeg.{coordinate-is}
 
 abbrev pub nearestTo : Fraction → Float
 nearestTo x = nearest (x .num) (x .den)
-
--- P + α(Q - P) on one axis, equation (2)
-abbrev pub along : Leg → Fraction → Fraction
-along l α = record { num = l .p *ℤ pos (α .den) +ℤ α .num *ℤ (l .q -ℤ l .p); den = α .den }
 
 abbrev pub pointTo : Ray → Fraction → Point
 pointTo r α = record { x = nearestTo (along (leg r X) α); y = nearestTo (along (leg r Y) α); z = nearestTo (along (leg r Z) α) }
@@ -45,7 +41,7 @@ module _ (m : Limits) (g : Grid) (r : Ray) (ok : refusalOf m g r ≡ 0) (hit : m
   module _ {α : Fraction} {t : ℕ} (p : Is (dOf r) α t) (most : t ≤ dOf r) where
     along-is : (s : Side) → nearestTo (along (leg r s) α) ≡ coordinate (leg r s) t (dOf r)
     along-is s =
-        ap (λ (z : ℤ). nearest (leg r s .p *ℤ pos (α .den) +ℤ z *ℤ (leg r s .q -ℤ leg r s .p)) (α .den)) (least0 p)
+        ap (λ (z : ℤ). nearestTo (along (leg r s) (record { num = z; den = α .den }))) (least0 p)
         ∙ coordinate-is m (leg r s) (ends-inside m r (accepted m g r ok .ends) s) (natural (α .num)) (α .den) t (dOf r) (p .den-pos) (p .d-pos) most (at p)
 
     point-is : pointTo r α ≡ pointAt r t (dOf r)

@@ -1,13 +1,13 @@
--- The length in one voxel, αmin and αmax (RULES 3, 4) in whole numbers and fractions; and that part, start and stop over D are those.
--- Assumes nothing.
-use Prim.Native.Nat.{ℕ, zero, suc, _*_, _≤_, _<_, min, max}
+-- The length in one voxel, αmin and αmax (RULES 3, 4), and equations (2), (12) and (13), in whole numbers and fractions; and that part,
+-- start and stop over D are those. Assumes nothing.
+use Prim.Native.Nat.{ℕ, zero, suc, _+_, _*_, _≤_, _<_, min, max}
 use mathlib.Core.Path.{_≡_, refl, sym, ap, ap₂, _∙_}
 use mathlib.Core.Bool.{Bool, true, false, cond, true≢false}
 use mathlib.Core.List.{List, [], _∷_, map}
 use mathlib.Core.Logic.{inl, inr}
-use native.Mathlib.Nat.{mul-assoc, mul-comm, min-eq-right, min-le-right, min-comm, zero-max, max-zero, le-refl, le-trans}
+use native.Mathlib.Nat.{mul-assoc, mul-comm, mul-left-comm, mul-pos, min-eq-right, min-le-right, min-comm, zero-max, max-zero, le-refl, le-trans}
 use native.Mathlib.Omega.{arith}
-use lib.IntN.{ℤ, pos, negsuc, negℤ, natAbs, _-ℤ_, _*ℤ_, *ℤ-comm, *ℤ-zero, zero-*ℤ}
+use lib.IntN.{ℤ, pos, negsuc, negℤ, natAbs, _+ℤ_, _-ℤ_, _*ℤ_, *ℤ-comm, *ℤ-zero, zero-*ℤ}
 use lib.Signed.{ltZ, leZ}
 use lib.Dec.{leb, leb·zero}
 use borrow.Author.Tests.{not-true}
@@ -19,11 +19,23 @@ use Rattle.ray.proofs.Tests.{tested}
 use Rattle.ray.proofs.Told.{lt-le, le-diff, neg-diff}
 use Rattle.ray.proofs.Way.{factor-pos}
 use Rattle.ray.proofs.Capped.{d-side, d-pos, still-rest, part, part-voxel}
-use Rattle.ray.proofs.Fraction.{Fraction, lesser, greater, minus, whole, orZero, least, greatest, At, Is, none-is, above-zero, or-zero, lesser-at, greater-at, greater-is, minus-at}
+use Rattle.ray.proofs.Fraction.{Fraction, lesser, greater, minus, plus, whole, orZero, least, greatest, At, Is, at, least0, plus-is, none-is, above-zero, or-zero, lesser-at, greater-at, greater-is, minus-at}
 
 -- α of the place c, (c - p) / (q - p), equation (4), with no sign below the line
 abbrev pub α : Leg → ℤ → Fraction
 α l c = record { num = cond (ltZ (l .p) (l .q)) (c -ℤ l .p) (l .p -ℤ c); den = natAbs (l .q -ℤ l .p) }
+
+-- P + α(Q - P) on one axis, equation (2)
+abbrev pub along : Leg → Fraction → Fraction
+along l α = record { num = l .p *ℤ pos (α .den) +ℤ α .num *ℤ (l .q -ℤ l .p); den = α .den }
+
+-- the middle of two α, equation (13)
+abbrev pub αmid : Fraction → Fraction → Fraction
+αmid x y = record { num = plus x y .num; den = plus x y .den * 2 }
+
+-- [P + α(Q - P) - b] / d, where the first plane is at b: equation (12), counted from 0, before it is rounded
+abbrev pub equation12 : Leg → (b : ℤ) → (d : ℕ) → Fraction → Fraction
+equation12 l b d α = record { num = along l α .num -ℤ b *ℤ pos (α .den); den = α .den * d }
 
 -- of some axes the moving ones
 unfoldable pub movers : Ray → List Side → List Side
@@ -75,6 +87,19 @@ pub α-is : (l : Leg) (c : ℤ) → moving l ≡ true → α l c .num *ℤ (l .q
         positive (negsuc n) e = absurd (true≢false (sym (leb·zero 0) ∙ e))
 
 -- ---- in units of 1/D
+
+-- a fraction by a whole number
+pub over-is : {d : ℕ} {x : Fraction} {n : ℕ} (k : ℕ) → 0 < k → Is d x n → Is (k * d) (record { num = x .num; den = x .den * k }) n
+over-is {d} {x} {n} k some p = record {
+  d-pos = mul-pos some (p .d-pos);
+  den-pos = mul-pos (p .den-pos) some;
+  is =
+      ap (λ (z : ℤ). z *ℤ pos (k * d)) (least0 p)
+      ∙ ap pos (mul-left-comm (natural (x .num)) k d ∙ ap (λ (t : ℕ). k * t) (at p) ∙ mul-comm k (n * x .den) ∙ mul-assoc n (x .den) k);
+}
+
+pub αmid-is : {d : ℕ} {x y : Fraction} {n m : ℕ} → Is d x n → Is d y m → Is (2 * d) (αmid x y) (n + m)
+αmid-is p q = over-is 2 (omega arith) (plus-is p q)
 
 natural-cond : (t : Bool) (x y : ℤ) → natural (cond t x y) ≡ cond t (natural x) (natural y)
 natural-cond true x y = refl

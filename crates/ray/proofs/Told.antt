@@ -33,7 +33,7 @@ pub natural-times : (d : ℕ) (z : ℤ) → natural (pos d *ℤ z) ≡ d * natur
 natural-times d (pos n) = refl
 natural-times d (negsuc n) = neg-none (d * suc n) ∙ sym (mul-zero d)
 
-times-neg : (d : ℕ) (z : ℤ) → pos d *ℤ negℤ z ≡ negℤ (pos d *ℤ z)
+pub times-neg : (d : ℕ) (z : ℤ) → pos d *ℤ negℤ z ≡ negℤ (pos d *ℤ z)
 times-neg d (pos zero) = rw (mul-zero d)
 times-neg d (pos (suc n)) = refl
 times-neg d (negsuc n) = sym (negℤ-negℤ (pos (d * suc n)))

@@ -5,6 +5,7 @@ pub mod Walking
 pub mod Found
 pub mod Frames
 pub mod Plans
+pub mod FirstVoxel
 pub mod SetOut
 pub mod Alphas
 pub mod Counts

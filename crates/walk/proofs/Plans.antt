@@ -1,5 +1,5 @@
 -- A plan of a scene that is hit: its walk is walking, and so its entries are the list. Assumes nothing.
-use Prim.Native.Nat.{ℕ, _+_, _-_, _*_, _^_, _≤_, _<_}
+use Prim.Native.Nat.{ℕ, _+_, _-_, _*_, _^_, _≤_, _<_, min}
 use mathlib.Core.Path.{_≡_, refl, sym, ap, _∙_}
 use mathlib.Core.Bool.{true, false, _||_, not}
 use mathlib.Core.List.{map}
@@ -15,18 +15,23 @@ use Rattle.ray.proofs.Tests.{all-of}
 use Rattle.ray.proofs.Way.{Way, up, down, still, Goes}
 use Rattle.line.specs.declared.line.Line.{Line}
 use Rattle.line.specs.declared.scene.Scene.{Scene}
-use Rattle.line.specs.Scene.{line, volumeOf, rayOf, Sized, Able, heldAt, Window, Within}
-use Rattle.line.specs.Reach.{crossedOn}
+use Rattle.line.specs.Scene.{line, volumeOf, rayOf, Sized, Able, leavesAt, heldAt, Window, Within}
+use Rattle.line.specs.Reach.{leftAt, crossedOn}
+use Rattle.line.specs.Beyond.{First, Stretch}
 use Rattle.line.proofs.Three.{each, most-le, le-most, least-le, most-mono}
 use Rattle.line.proofs.Stretch.{going, enter-whole}
 use Rattle.line.proofs.Steps.{stride}
+use Rattle.line.proofs.Rounded.{voxel-of}
+use Rattle.line.proofs.Beyond.{leave-beyond}
+use Rattle.line.proofs.Crossing.{crossed-beyond}
 use Rattle.line.proofs.Sizes.{two-sizes, three-sizes, factor-size}
 use Rattle.line.proofs.Scenes.{way, leg-is, leave, fromOf, toOf, enterIn, enterAll, leaveAll}
 use Rattle.walk.specs.declared.steps.Walk.{Walk}
 use Rattle.walk.specs.declared.steps.Strides.{Strides}
 use Rattle.walk.specs.declared.plan.Frame.{Frame}
+use Rattle.walk.specs.declared.plan.Ahead.{Ahead}
 use Rattle.walk.specs.Model.{jumpOf, Forward}
-use Rattle.walk.specs.Plan.{restOf, Framed, unit, Strided, Begun, Planned}
+use Rattle.walk.specs.Plan.{restOf, Framed, unit, Strided, planeOf, Facing, Begun, Planned}
 use Rattle.walk.proofs.Hops.{Jump, unit-small}
 use Rattle.walk.proofs.Walking.{Paced, Inside, Walking, under-least, cut-le, soon-later}
 use Rattle.walk.proofs.Found.{found-list, found-parts}
@@ -39,6 +44,13 @@ jump-by still p q u x g a b = tt
 -- a tick's voxel, where the ticks to a unit and the tick go by other names
 carried : {a : Line} {c d t u i : ℕ} → c ≡ d → u ≡ t → Within a c t i → Within a d u i
 carried e k v = rw (k, ← e) v
+
+-- the planes crossed, axis by axis
+pub crossed-all : {s : Scene} {f : Frame} (n : Side → ℕ) → Framed s f → f .hit ≡ true → ((o : Side) → n o ≡ crossedOn (line s o) (restOf f o) (f .from) (f .to))
+    → n X + n Y + n Z ≡ crossedOf (volumeOf s) (rayOf s)
+unfolding crosses crossedOf
+crossed-all {s} n framed hit e =
+    rw (e X, e Y, e Z, framed .rests X, framed .rests Y, framed .rests Z, framed .from-is, framed .to-is, not-true (misses (volumeOf s) (rayOf s)) (sym (framed .hit-is) ∙ hit)) refl
 
 module _ {s : Scene} (able : Able s) where
   factor-few : (o : Side) → factor (leg (rayOf s) o) ≤ 2 ^ 20
@@ -83,12 +95,48 @@ module _ {s : Scene} (able : Able s) where
         until = lt-of-lt-of-le (under-least (dOf (rayOf s)) t _ (rw (framed .to-is) at b)) (least-le (leaveAll s) o);
       })
 
-      -- what `index` asks at the first tick, and `crossed` at the first and the last
-      pub at-first : (o : Side) → Sized (line s o) × Window (line s o) (restOf f o) (f .from)
-      at-first o = (able .sized o, windows o (f .from) (omega arith) proper)
+      -- what `ahead` and `index` ask at the first tick, and `ahead` at the last
+      pub at-first : (o : Side) → Sized (line s o) × (restOf f o ≤ 2 ^ 40) × Window (line s o) (restOf f o) (f .from)
+      at-first o = (able .sized o, few o, windows o (f .from) (omega arith) proper)
 
-      pub at-both : (o : Side) → (Sized (line s o) × (f .from < f .to)) × (Window (line s o) (restOf f o) (f .from) × Window (line s o) (restOf f o) (f .to - 1))
-      at-both o = let h = proper in ((able .sized o, h), (at-first o .1, windows o (f .to - 1) (omega arith) (omega arith)))
+      pub at-last : (o : Side) → Sized (line s o) × (restOf f o ≤ 2 ^ 40) × Window (line s o) (restOf f o) (f .to - 1)
+      at-last o = let h = proper in (able .sized o, few o, windows o (f .to - 1) (omega arith) (omega arith))
+
+      module _ {a : Ahead} (facing : Facing s f a) where
+        -- what `leave_tick` asks of the plane ahead
+        pub at-plane : (o : Side) → Sized (line s o) × (restOf f o ≤ 2 ^ 40) × (planeOf a o ≤ line s o .n)
+        at-plane o = (able .sized o, few o, facing .first o .few)
+
+        -- the plane ahead is the one by which the first voxel is left
+        module _ (left : Side → ℕ) (met : (o : Side) → left o ≡ leftAt (line s o) (restOf f o) (planeOf a o)) where
+          pub left-is : (o : Side) {i : ℕ} → Within (line s o) (restOf f o) (f .from) i → left o ≡ leavesAt (line s o) (restOf f o) i (i + 1)
+          left-is o {i} v = met o ∙ ap (leftAt (line s o) (restOf f o)) (facing .first o .ahead i v) ∙ leave-beyond (line s o) (restOf f o) i
+
+          later : (o : Side) → f .from < left o
+          later o =
+              let v = voxel-of (line s o) (restOf f o) (f .from) (at-first o .2) (able .sized o) in
+              omega (arith, left-is o (v .1), v .1 .until)
+
+          -- the first stretch, up to the soonest plane or to αmax, is never empty, and no plane cuts it
+          pub first-stretch : (next : ℕ) → next ≡ min (f .to) (min (left X) (min (left Y) (left Z))) → (o : Side) → Stretch (line s o) (restOf f o) (f .from) next
+          first-stretch next e o =
+              let soonest : (o : Side) → next ≤ left o = each _ (omega arith) (omega arith) (omega arith) in
+              record {
+                some = let h = proper in omega (arith, later X, later Y, later Z);
+                clear = λ i v. omega (arith, soonest o, left-is o v);
+              }
+
+      -- the planes from those ahead of the first tick to those ahead of the last are those crossed
+      pub crossed-is : {a : Ahead} → Facing s f a → (last n : Side → ℕ) → ((o : Side) → First (line s o) (restOf f o) (f .to - 1) (last o))
+          → ((o : Side) → n o ≡ (planeOf a o - last o) + (last o - planeOf a o)) → n X + n Y + n Z ≡ crossedOf (volumeOf s) (rayOf s)
+      crossed-is {a} facing last n lasts apart = crossed-all n framed hit (λ o. apart o ∙ between o)
+        where
+          between : (o : Side) → (planeOf a o - last o) + (last o - planeOf a o) ≡ crossedOn (line s o) (restOf f o) (f .from) (f .to)
+          between o =
+              let i = voxel-of (line s o) (restOf f o) (f .from) (at-first o .2) (able .sized o) in
+              let j = voxel-of (line s o) (restOf f o) (f .to - 1) (at-last o .2) (able .sized o) in
+              rw (facing .first o .ahead (i .0) (i .1), lasts o .ahead (j .0) (j .1))
+              (crossed-beyond (line s o) (restOf f o) (able .sized o) (f .from) (f .to) (i .0) (j .0) (i .1) (j .1) proper)
 
       module _ {w : Walk} (begun : Begun s f w) where
         abbrev at : Side → ℕ
@@ -133,10 +181,3 @@ module _ {s : Scene} (able : Able s) where
                 parts-are = rw (framed .to-is) (found-parts able paced walking f′ ∙ ap (map (partOf (volumeOf s) (rayOf s))) vs);
                 crossed-is = e;
               }
-
--- the planes crossed, axis by axis
-pub crossed-all : {s : Scene} {f : Frame} (n : Side → ℕ) → Framed s f → f .hit ≡ true → ((o : Side) → n o ≡ crossedOn (line s o) (restOf f o) (f .from) (f .to))
-    → n X + n Y + n Z ≡ crossedOf (volumeOf s) (rayOf s)
-unfolding crosses crossedOf
-crossed-all {s} n framed hit e =
-    rw (e X, e Y, e Z, framed .rests X, framed .rests Y, framed .rests Z, framed .from-is, framed .to-is, not-true (misses (volumeOf s) (rayOf s)) (sym (framed .hit-is) ∙ hit)) refl

@@ -12,11 +12,10 @@ use Rattle.line.specs.declared.scene.Scene.{Scene}
 use Rattle.line.specs.Scene.{line, volumeOf, rayOf, Able, leavesAt, Within}
 use Rattle.line.specs.Reach.{crossedOn}
 use Rattle.line.proofs.Three.{each}
-use Rattle.line.proofs.Stretch.{going}
-use Rattle.line.proofs.Steps.{indexBy, index-within}
+use Rattle.line.proofs.Rounded.{voxel-of}
 use Rattle.line.proofs.Sizes.{leave-ticks}
 use Rattle.line.proofs.Crossing.{crossed-is}
-use Rattle.line.proofs.Scenes.{way, fromOf, toOf}
+use Rattle.line.proofs.Scenes.{fromOf, toOf}
 use Rattle.walk.specs.declared.steps.Walk.{Walk}
 use Rattle.walk.specs.declared.steps.Strides.{Strides}
 use Rattle.walk.specs.declared.plan.Frame.{Frame}
@@ -81,17 +80,14 @@ module _ {s : Scene} (able : Able s) where
     from-to = proper able (framed s) hits
 
     -- on each axis the voxel of a tick at which the ray is in the array
-    abbrev index : ℕ → Side → ℕ
-    index t o = indexBy (way s o) (line s o) (restOf (frame s) o) t
-
-    within : (t : ℕ) → frame s .from ≤ t → t < frame s .to → (o : Side) → Within (line s o) (restOf (frame s) o) t (index t o)
-    within t a b o = index-within (line s o) (restOf (frame s) o) t (way s o) (going (line s o)) (windows able (framed s) hits o t a b) (able .sized o)
+    voxel : (t : ℕ) → frame s .from ≤ t → t < frame s .to → (o : Side) → (i : ℕ) × Within (line s o) (restOf (frame s) o) t i
+    voxel t a b o = voxel-of (line s o) (restOf (frame s) o) t (windows able (framed s) hits o t a b) (able .sized o)
 
     abbrev at : Side → ℕ
-    at = index (frame s .from)
+    at o = voxel (frame s .from) (omega arith) from-to o .0
 
     first-within : (o : Side) → Within (line s o) (restOf (frame s) o) (frame s .from) (at o)
-    first-within = within (frame s .from) (omega arith) from-to
+    first-within o = voxel (frame s .from) (omega arith) from-to o .1
 
     abbrev leave : Side → ℕ
     leave o = leavesAt (line s o) (restOf (frame s) o) (at o) (at o + 1)
@@ -130,7 +126,7 @@ module _ {s : Scene} (able : Able s) where
     on-few : (o : Side) → on o + 1 ≤ line s o .n
     on-few o =
         let some = from-to in
-        let last = within (frame s .to - 1) (omega arith) (omega arith) o in
+        let last = voxel (frame s .to - 1) (omega arith) (omega arith) o .1 in
         apart _ _ (on o) (line s o .n) (first-within o .inside) (last .inside)
         (crossed-is (line s o) (restOf (frame s) o) (able .sized o) (frame s .from) (frame s .to) _ _ (first-within o) last some)
 

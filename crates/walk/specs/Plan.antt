@@ -5,10 +5,12 @@ use mathlib.Core.Bool.{not}
 use mathlib.Core.List.{map}
 use Rattle.ray.specs.Length.{Side, X, Y, Z, Volume, rest, dOf, array, start, stop, misses, partOf, listOf, crossedOf}
 use Rattle.line.specs.declared.scene.Scene.{Scene}
+use Rattle.line.specs.Beyond.{First}
 use Rattle.line.specs.Scene.{line, volumeOf, rayOf, leavesAt, Within}
 use Rattle.walk.specs.declared.steps.Walk.{Walk}
 use Rattle.walk.specs.declared.steps.Strides.{Strides}
 use Rattle.walk.specs.declared.plan.Frame.{Frame}
+use Rattle.walk.specs.declared.plan.Ahead.{Ahead}
 use Rattle.walk.specs.declared.plan.Plan.{Plan}
 use Rattle.walk.specs.Model.{leaveOf, stepOf, jumpOf, voxels, parts, entries, Forward}
 
@@ -35,6 +37,15 @@ pub record Strided (s : Scene) (f : Frame) (t : Strides) : Type 0 where
   pub ticks : (o : Side) → stepOf t o ≡ line s o .d * restOf f o
   pub upward : (o : Side) → line s o .p < line s o .q → jumpOf t o ≡ unit (volumeOf s) o
   pub downward : (o : Side) → line s o .q ≤ line s o .p → jumpOf t o + unit (volumeOf s) o ≡ 2 ^ 64
+
+-- on each axis the first plane after αmin
+abbrev pub planeOf : Ahead → Side → ℕ
+planeOf a X = a .x
+planeOf a Y = a .y
+planeOf a Z = a .z
+
+pub record Facing (s : Scene) (f : Frame) (a : Ahead) : Type 0 where
+  pub first : (o : Side) → First (line s o) (restOf f o) (f .from) (planeOf a o)
 
 -- the walk's first voxel, at `at` on each axis
 pub record Begun (s : Scene) (f : Frame) (w : Walk) : Type 0 where

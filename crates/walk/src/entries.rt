@@ -23,7 +23,8 @@ pub fn count(begin: Walk, s: Strides, to: u64) -> usize
     }
 }
 
-// Puts the entries up to the tick `to` at the front of the two lists, and says how many they are.
+// Puts the entries up to the tick `to` at the front of the two lists, and says how many they are. A part is the difference of two
+// neighbouring α of equation (10), times D.
 pub fn fill(begin: Walk, s: Strides, to: u64, voxels: &mut [u32], parts: &mut [u64]) -> usize
     requires { ⌜ Forward s to begin ⌝ }
     requires { ⌜ length (entries s to begin) ≤ length (now voxels) ⌝ }

@@ -4,9 +4,10 @@ ghost use mathlib.Core.Bool.{true, _&&_};
 ghost use lib.Dec.{ltb};
 ghost use Rattle.ray.specs.Length.{crossedOf};
 ghost use Rattle.line.specs.Scene.{Able, volumeOf, rayOf};
-ghost use Rattle.walk.specs.Plan.{Framed, Strided, Begun, Planned};
+ghost use Rattle.walk.specs.Plan.{Framed, Strided, Facing, Begun, Planned};
 use crate::steps::Strides;
 use crate::steps::Walk;
+use line::extremes::apart;
 use line::extremes::least;
 use line::extremes::most;
 use line::reach::Reach;
@@ -21,6 +22,13 @@ pub struct Frame {
     pub from: u64,
     pub to: u64,
     pub hit: bool,
+}
+
+// On each axis the first plane after αmin, by equation (6).
+pub struct Ahead {
+    pub x: u64,
+    pub y: u64,
+    pub z: u64,
 }
 
 pub struct Plan {
@@ -60,6 +68,7 @@ pub fn frame_of(s: Scene) -> Frame
     let rx = x.reach(cx);
     let ry = y.reach(cy);
     let rz = z.reach(cz);
+    // (5), times D: every α of (4) is a whole number over D. The paper's 0 is in them already, since `run` stops at 0, and its 1 is D.
     let from = most(rx.from, most(ry.from, rz.from));
     let to = least(denominator, least(rx.to, least(ry.to, rz.to)));
     let hit = hits(rx, ry, rz, from, to);
@@ -74,6 +83,7 @@ pub fn frame_of(s: Scene) -> Frame
     }
 }
 
+// Equation (7): from plane to plane α grows by d over the difference of the ends, which times D is d times what is left of D.
 fn strides_of(s: Scene, f: Frame) -> Strides
     requires { ⌜ Able s × Framed s f ⌝ }
     ensures { λ r. ⌜ Strided s f r ⌝ }
@@ -91,37 +101,61 @@ fn strides_of(s: Scene, f: Frame) -> Strides
     }
 }
 
-// Into the first voxel.
-fn walk_of(s: Scene, f: Frame) -> Walk
+fn ahead_of(s: Scene, f: Frame) -> Ahead
     requires { ⌜ Able s × Framed s f × (f .hit ≡ true) ⌝ }
+    ensures { λ r. ⌜ Facing s f r ⌝ }
+{
+    let x = s.x;
+    let y = s.y;
+    let z = s.z;
+    let from = f.from;
+    Ahead {
+        x: x.ahead(f.cx, from),
+        y: y.ahead(f.cy, from),
+        z: z.ahead(f.cz, from),
+    }
+}
+
+// Into the first voxel, by the middle of the first stretch, equations (13) and (12). It goes from αmin to the soonest plane after it,
+// or to αmax where none lies between; in ticks, so both ends are whole numbers over D.
+fn walk_of(s: Scene, f: Frame, first: Ahead) -> Walk
+    requires { ⌜ Able s × Framed s f × (f .hit ≡ true) × Facing s f first ⌝ }
     ensures { λ r. ⌜ Begun s f r ⌝ }
 {
     let x = s.x;
     let y = s.y;
     let z = s.z;
     let from = f.from;
-    let i = x.index(f.cx, from);
-    let j = y.index(f.cy, from);
-    let k = z.index(f.cz, from);
+    let on_x = x.leave_tick(f.cx, first.x);
+    let on_y = y.leave_tick(f.cy, first.y);
+    let on_z = z.leave_tick(f.cz, first.z);
+    let next = least(f.to, least(on_x, least(on_y, on_z)));
+    let i = x.index(f.cx, from, next);
+    let j = y.index(f.cy, from, next);
+    let k = z.index(f.cz, from, next);
     Walk {
-        x: x.leave_tick(f.cx, i),
-        y: y.leave_tick(f.cy, j),
-        z: z.leave_tick(f.cz, k),
+        x: on_x,
+        y: on_y,
+        z: on_z,
         v: (k * y.n + j) * x.n + i,
         t: from,
     }
 }
 
-fn crossed_of(s: Scene, f: Frame) -> u64
-    requires { ⌜ Able s × Framed s f × (f .hit ≡ true) ⌝ }
+// The planes crossed: the three brackets of equation (9), without the planes met at αmin or αmax itself. By (6), on each axis from the
+// first plane after αmin up to, and without, the first that is not before αmax, which is the first after the tick before it.
+fn crossed_of(s: Scene, f: Frame, first: Ahead) -> u64
+    requires { ⌜ Able s × Framed s f × (f .hit ≡ true) × Facing s f first ⌝ }
     ensures { λ r. ⌜ r ≡ crossedOf (volumeOf s) (rayOf s) ⌝ }
 {
     let x = s.x;
     let y = s.y;
     let z = s.z;
-    let from = f.from;
-    let to = f.to;
-    x.crossed(f.cx, from, to) + y.crossed(f.cy, from, to) + z.crossed(f.cz, from, to)
+    let last = f.to - 1;
+    let on_x = apart(first.x, x.ahead(f.cx, last));
+    let on_y = apart(first.y, y.ahead(f.cy, last));
+    let on_z = apart(first.z, z.ahead(f.cz, last));
+    on_x + on_y + on_z
 }
 
 // The walk of a ray that hits.
@@ -130,9 +164,10 @@ pub fn plan_of(s: Scene, f: Frame) -> Plan
     ensures { λ r. ⌜ Planned s (f .to) r ⌝ }
     ensures { λ r. ⌜ Begun s f (r .walk) × Strided s f (r .strides) ⌝ }
 {
-    let walk = walk_of(s, f);
+    let first = ahead_of(s, f);
+    let walk = walk_of(s, f, first);
     let strides = strides_of(s, f);
-    let crossed = crossed_of(s, f);
+    let crossed = crossed_of(s, f, first);
     Plan {
         walk,
         strides,

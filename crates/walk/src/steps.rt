@@ -68,7 +68,8 @@ impl Walk {
         }
     }
 
-    // Into the next voxel: over each plane that is met first, several at a shared crossing.
+    // Into the next voxel: over each plane that is met first, several at a shared crossing. So the α of equation (8) come in order,
+    // and no list of them is made.
     pub fn step(self, s: Strides) -> Self
         requires { ⌜ (self .x + s .dx < 2 ^ 64) × (self .y + s .dy < 2 ^ 64) × (self .z + s .dz < 2 ^ 64) ⌝ }
         ensures { λ r. ⌜ r ≡ stepped s self ⌝ }

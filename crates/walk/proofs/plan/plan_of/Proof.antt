@@ -3,6 +3,9 @@ use borrow.Author.Needs.{needs}
 use Rattle.walk.proofs.plan.plan_of.Statement.{statement}
 use Rattle.walk.proofs.plan.plan_of.Tie as tie
 
+ahead-of-requires : tie.Need-ahead-of-requires
+ahead-of-requires c κs = search needs
+
 walk-of-requires : tie.Need-walk-of-requires
 walk-of-requires c κs = search needs
 
@@ -14,11 +17,12 @@ crossed-of-requires c κs = search needs
 
 returns : tie.Need-returns
 returns c =
-    let p = c .before .before .before .pre in
+    let p = c .before .before .before .before .pre in
     let w = c .before .before .walk-of .ensures in
     let t = c .before .strides-of .ensures in
     (planned (p .0) (p .1) (p .2) w t _ (c .crossed-of .ensures), (w, t))
 
 pub plan-of-spec : {M : Type 1} → statement M
 plan-of-spec =
-    tie.close (tie.spec walk-of-requires strides-of-requires crossed-of-requires returns)
+    tie.close
+    (tie.spec ahead-of-requires walk-of-requires strides-of-requires crossed-of-requires returns)

@@ -1,84 +1,73 @@
-use Prim.Native.Nat.{_/_}
-use mathlib.Core.Bool.{true}
+use Prim.Native.Nat.{ℕ, _+_, _^_, _≤_}
+use mathlib.Core.Path.{_≡_, _∙_}
 use native.Mathlib.Omega.{arith}
-use Rattle.line.specs.Scene.{plane, Within}
-use Rattle.ray.proofs.Way.{Way, up, down, still, Goes}
-use Rattle.line.proofs.Steps.{In, plane-zero, indexBy, in-array, index-within}
+use Rattle.line.specs.declared.line.Line.{Line}
+use Rattle.line.specs.Scene.{leavesAt, Within}
+use Rattle.line.proofs.Sizes.{leave-ticks}
+use Rattle.line.proofs.Rounded.{voxel-of}
+use Rattle.line.proofs.Middle.{middle-low, middle-down, middle-is}
 use borrow.Author.Needs.{needs}
 use Rattle.line.proofs.line.Line.index.Statement.{statement}
 use Rattle.line.proofs.line.Line.index.Tie as tie
 
--- by the way that the test has told
-module _ (s : tie.Start) (w : Way) (g : Goes w (s .args .self .p) (s .args .self .q)) where
-  array : In w true (s .args .self .p) (plane (s .args .self) 0) (plane (s .args .self) (s .args .self .n)) (s .args .t / s .args .c)
-  array = in-array (s .args .self) (s .args .c) (s .args .t) w g (s .pre .1)
+-- the voxel that the stretch lies in
+module _ (s : tie.Start) where
+  abbrev a : Line
+  a = s .args .self
 
-  found : Within (s .args .self) (s .args .c) (s .args .t) (indexBy w (s .args .self) (s .args .c) (s .args .t))
-  found = index-within (s .args .self) (s .args .c) (s .args .t) w g (s .pre .1) (s .pre .0)
+  abbrev i : ℕ
+  i = voxel-of a (s .args .c) (s .args .from) (s .pre .0 .2) (s .pre .0 .0) .0
 
-div-g : tie.Need-div-g
-div-g c = search needs
+  within : Within a (s .args .c) (s .args .from) i
+  within = voxel-of a (s .args .c) (s .args .from) (s .pre .0 .2) (s .pre .0 .0) .1
 
-add-result : tie.Need-add-result
-add-result c = let s = c .before .before .before in record { fits = omega (arith, array s up (c .before .if1 .taken) .high, s .pre .0 .far-size) }
+  until : s .args .next ≤ leavesAt a (s .args .c) i (i + 1)
+  until = s .pre .1 .clear i within
 
-sub-result : tie.Need-sub-result
-sub-result c = let s = c .before .before .before .before in omega (arith, array s up (c .before .before .if1 .taken) .low, plane-zero (s .args .self))
+  twice-few : s .args .from + s .args .next ≤ 2 ^ 61
+  twice-few = omega (arith, s .pre .1 .some, until, leave-ticks a (s .pre .0 .0) {i = i} {j = i + 1} (omega arith) (omega (arith, within .inside)) (s .pre .0 .1))
 
-div-result : tie.Need-div-result
-div-result c = search needs
+mul-spot : tie.Need-mul-spot
+mul-spot c = search needs
 
-returns : tie.Need-returns
-returns c = found (c .before .before .before .before .before) up (c .before .before .before .if1 .taken)
+add-spot : tie.Need-add-spot
+add-spot c = record { fits = omega (arith, twice-few c) }
 
-sub-result-2 : tie.Need-sub-result-2
-sub-result-2 c = omega (arith, array (c .before .before .before .before .before) down (c .before .if2 .taken) .ahead)
+spot-requires : tie.Need-spot-requires
+spot-requires c κs = (
+  (c .pre .0 .0, omega (arith, c .pre .0 .1), twice-few c),
+  middle-down (a c) (c .pre .0 .0) (c .args .c) (c .args .from) (c .args .next) (within c) (c .pre .1 .some) (until c),
+)
 
-sub-result-3 : tie.Need-sub-result-3
-sub-result-3 c = omega (arith, array (c .before .before .before .before .before) down (c .before .if2 .taken) .ahead)
+mul-quotient : tie.Need-mul-quotient
+mul-quotient c = search needs
 
-sub-result-4 : tie.Need-sub-result-4
-sub-result-4 c = let s = c .before .before .before .before .before .before in omega (arith, array s down (c .before .before .if2 .taken) .low, plane-zero (s .args .self))
-
-div-result-2 : tie.Need-div-result-2
-div-result-2 c = search needs
-
-returns-2 : tie.Need-returns-2
-returns-2 c = found (c .before .before .before .before .before .before .before) down (c .before .before .before .if2 .taken)
+quotient-requires : tie.Need-quotient-requires
+quotient-requires c κs =
+    let s = c .before in
+    (s .pre .0 .0, omega (arith, s .pre .0 .2 .some), omega (arith, s .pre .0 .1), rw (c .spot .ensures .0) (middle-low (a s) (s .pre .0 .0) (s .args .c) (s .args .from) (s .args .next) (within s) (s .pre .1 .some) (until s)))
 
 sub-least : tie.Need-sub-least
-sub-least c =
-    let s = c .before .before .before .before .before in
-    omega (arith, array s still (omega (arith, c .before .if2 .left, c .before .before .before .if1 .left)) .low, plane-zero (s .args .self))
-
-div-least : tie.Need-div-least
-div-least c = search needs
-
-sub-least-2 : tie.Need-sub-least-2
-sub-least-2 c = c .before .before .before .before .before .before .before .pre .0 .some
+sub-least c = search needs
 
 least-requires : tie.Need-least-requires
 least-requires c κs = search needs
 
-returns-3 : tie.Need-returns-3
-returns-3 c = rw (c .least .ensures) (found (c .before .before .before .before .before .before .before .before) still (omega (arith, c .before .before .before .before .if2 .left, c .before .before .before .before .before .before .if1 .left)))
+returns : tie.Need-returns
+returns c =
+    let s = c .before .before .before .before in
+    let e : c .least .result ≡ i s = c .least .ensures ∙ rw (c .before .before .quotient .ensures, c .before .before .before .spot .ensures .0) (middle-is (a s) (s .pre .0 .0) (s .args .c) (s .args .from) (s .args .next) (within s) (s .pre .1 .some) (until s)) in
+    rw e (within s)
 
 pub index-spec : {M : Type 1} → statement M
 index-spec =
     tie.close
     (tie.spec
-    div-g
-    add-result
-    sub-result
-    div-result
-    returns
-    sub-result-2
-    sub-result-3
-    sub-result-4
-    div-result-2
-    returns-2
+    mul-spot
+    add-spot
+    spot-requires
+    mul-quotient
+    quotient-requires
     sub-least
-    div-least
-    sub-least-2
     least-requires
-    returns-3)
+    returns)
