@@ -1,9 +1,8 @@
 -- From what the trace answers to what its entry point promises. Assumes nothing.
 use Prim.Native.Nat.{ℕ}
 use mathlib.Core.Path.{_≡_, refl, sym, ap, _∙_}
+use mathlib.Core.Bool.{Bool}
 use mathlib.Core.List.{List}
-use native.Mathlib.Omega.{arith}
-use native.Mathlib.Decide.{ℕ-discrete}
 use lib.ListN.{length}
 use borrow.Author.Tests.{eq-eqb, ne-eqb}
 use Rattle.axis.specs.declared.Limits.{Limits}
@@ -11,45 +10,46 @@ use Rattle.axis.specs.Codes.{first}
 use Rattle.axis.proofs.Table.{then, then-stop, then-on, joined}
 use Rattle.ray.specs.declared.Grid.{Grid}
 use Rattle.ray.specs.declared.Ray.{Ray}
-use Rattle.ray.specs.Length.{volume}
 use Rattle.ray.specs.Codes.{traceRows}
 use Rattle.tracing.specs.declared.Trace.{Trace}
-use Rattle.tracing.specs.Answer.{Lists, lent, codeOf, accepted, voxelsAfter, partsAfter, Answers}
-use Rattle.tracing.proofs.OneCall.{code-is, fields}
-use Rattle.ilvoresta.specs.Entry.{lengthRow, traceCode, after, sixOf, Traced}
+use Rattle.tracing.specs.Answer.{Lists, lent, codeOf, voxelsAfter, partsAfter, Answers}
+use Rattle.tracing.specs.Inside.{Asked, AnswersWhen}
+use Rattle.tracing.proofs.OneCall.{code-is, fields, when-code, when-refused}
+use Rattle.ilvoresta.specs.Entry.{lengthRow, traceCode, sixOf, Traced}
 
 module _ (m : Limits) (g : Grid) (r : Ray) (l : Lists) (ans : List ℕ) where
   in-turn : traceCode m g r (lent l) (length ans) ≡ then (codeOf m g r (lent l)) (first (lengthRow 6 (length ans)))
   in-turn = joined (traceRows m g r (lent l)) (lengthRow 6 (length ans)) refl
 
-  -- a refusal: no list is touched
-  refuses : (c : ℕ) → c ≡ traceCode m g r (lent l) (length ans) → (c ≡ 0 → ⊥) → Traced m g r l ans c (l .voxels) (l .parts) ans
-  refuses c e h = record { code-is = e; voxels-now = rw (ne-eqb c 0 h) refl; parts-now = rw (ne-eqb c 0 h) refl; answer-now = rw (ne-eqb c 0 h) refl }
+module _ {m : Limits} {g : Grid} {r : Ray} {l : Lists} {ans : List ℕ} {t : Trace} {vs ps : List ℕ} where
+  -- the trace refuses, whether or not it may write: no list is touched
+  pub untraced : (ready : Bool) → AnswersWhen ready m g r l t vs ps → (t .code ≡ 0 → ⊥) → Traced m g r l ans (t .code) vs ps ans
+  untraced ready a h =
+      let old = when-refused ready a h in
+      record {
+        code-is = sym (in-turn m g r l ans ∙ rw (← when-code ready a) (then-stop (t .code) _ h));
+        voxels-now = rw (ne-eqb (t .code) 0 h) (old .0);
+        parts-now = rw (ne-eqb (t .code) 0 h) (old .1);
+        answer-now = rw (ne-eqb (t .code) 0 h) refl;
+      }
 
-  -- a list of six: the code is the trace's, and so are the numbers where it is 0
-  then-zero : (c : ℕ) → then c 0 ≡ c
-  then-zero c = elim (ℕ-discrete c 0) [ yes e ↦ then-on c 0 e ∙ sym e | no e ↦ then-stop c 0 e ]
-
-  module _ {t : Trace} {vs ps : List ℕ} (a : Answers m g r l t vs ps) where
-    code : length ans ≡ 6 → t .code ≡ traceCode m g r (lent l) (length ans)
-    code h = sym (in-turn ∙ rw (eq-eqb (length ans) 6 h, ← code-is a) (then-zero (t .code)))
-
-    six : after (t .code) (sixOf t) ans ≡ after (t .code) (sixOf (accepted (volume g) r (l .densities))) ans
-    six = elim (ℕ-discrete (t .code) 0) [ yes z ↦ ap (λ (u : Trace). after (t .code) (sixOf u) ans) (fields a z) | no z ↦ rw (ne-eqb (t .code) 0 z) refl ]
-
-module _ {m : Limits} {g : Grid} {r : Ray} {l : Lists} {ans : List ℕ} where
-  pub untraced : (c : ℕ) → c ≡ codeOf m g r (lent l) → (c ≡ 0 → ⊥) → Traced m g r l ans c (l .voxels) (l .parts) ans
-  untraced c e h = refuses m g r l ans c (sym (in-turn m g r l ans ∙ rw (← e) (then-stop c _ h))) h
-
-  pub other-length : codeOf m g r (lent l) ≡ 0 → (length ans ≡ 6 → ⊥) → Traced m g r l ans 17 (l .voxels) (l .parts) ans
-  other-length e h = refuses m g r l ans 17 (sym (in-turn m g r l ans ∙ then-on _ _ e ∙ rw (ne-eqb (length ans) 6 h) refl)) (λ no. omega arith)
-
-  -- a trace, and the list filled where its code is 0
-  pub traced : {t : Trace} {vs ps ans′ : List ℕ} → Answers m g r l t vs ps → length ans ≡ 6 → ans′ ≡ after (t .code) (sixOf t) ans → Traced m g r l ans (t .code) vs ps ans′
-  unfolding voxelsAfter partsAfter
-  traced a h e = record {
-    code-is = code m g r l ans a h;
-    voxels-now = rw (code-is a) (a .voxels-now);
-    parts-now = rw (code-is a) (a .parts-now);
-    answer-now = e ∙ six m g r l ans a;
+  -- it would not, and the list is not one of six
+  pub other-length : Asked m g r l t vs ps → t .code ≡ 0 → (length ans ≡ 6 → ⊥) → Traced m g r l ans 17 vs ps ans
+  other-length a e h = record {
+    code-is = sym (in-turn m g r l ans ∙ then-on _ _ (sym (ap (λ (x : Trace). x .code) (a .answer)) ∙ e) ∙ rw (ne-eqb (length ans) 6 h) refl);
+    voxels-now = a .voxels-now;
+    parts-now = a .parts-now;
+    answer-now = refl;
   }
+
+  -- a trace, and the list filled
+  pub traced : Answers m g r l t vs ps → t .code ≡ 0 → length ans ≡ 6 → Traced m g r l ans 0 vs ps (sixOf t)
+  unfolding voxelsAfter partsAfter
+  traced a e h =
+      let free : codeOf m g r (lent l) ≡ 0 = sym (code-is a) ∙ e in
+      record {
+        code-is = sym (in-turn m g r l ans ∙ rw (free, eq-eqb (length ans) 6 h) refl);
+        voxels-now = a .voxels-now ∙ rw free refl;
+        parts-now = a .parts-now ∙ rw free refl;
+        answer-now = ap sixOf (fields a e);
+      }

@@ -6,11 +6,9 @@ ghost use Rattle.tracing.specs.Inside.{Suited};
 ghost use Rattle.ilvoresta.specs.Entry.{sixOf, Traced};
 use axis::Limits;
 use ray::Grid;
-use ray::Lent;
 use ray::Ray;
 use tracing::Trace;
-use tracing::device::code_of;
-use tracing::device::trace;
+use tracing::device::trace_when;
 
 pub fn put_six(t: Trace, answer: &mut [u64])
     requires { ⌜ length (now answer) ≡ 6 ⌝ }
@@ -24,7 +22,7 @@ pub fn put_six(t: Trace, answer: &mut [u64])
     answer[5] = t.sum;
 }
 
-// Where the answer list has another length nothing may be written, so the code is worked out without a trace.
+// Where the answer list has another length nothing may be written: then the trace is only asked for its code.
 pub fn trace_into(
     m: Limits,
     g: Grid,
@@ -37,22 +35,14 @@ pub fn trace_into(
     requires { ⌜ Suited m ⌝ }
     ensures { λ c. ⌜ Traced m g r (lists (now (densities .entry)) (now (voxels .entry)) (now (parts .entry)) 0) (now (answer .entry)) c (now (voxels .exit)) (now (parts .exit)) (now (answer .exit)) ⌝ }
 {
-    if answer.len() != 6 {
-        let lent = Lent {
-            densities: densities.len(),
-            voxels: voxels.len(),
-            parts: parts.len(),
-            filled: 0,
-        };
-        let code = code_of(m, g, r, lent);
-        if code != 0 {
-            return code;
-        }
-        return 17;
+    let ready = answer.len() == 6;
+    let t = trace_when(m, g, r, densities, voxels, parts, ready);
+    if t.code != 0 {
+        return t.code;
     }
-    let t = trace(m, g, r, densities, voxels, parts);
-    if t.code == 0 {
+    if ready {
         put_six(t, answer);
+        return 0;
     }
-    t.code
+    17
 }

@@ -25,7 +25,7 @@ reach-once a c r r′ x y = λ i. record {
   held = once (x .held-is) (y .held-is) i;
 }
 
-pub jump-once : (p q unit r r′ : ℕ) → (p < q → r ≡ unit) × (q ≤ p → r + unit ≡ 2 ^ 64) → (p < q → r′ ≡ unit) × (q ≤ p → r′ + unit ≡ 2 ^ 64) → r ≡ r′
+pub jump-once : (p q unit r r′ : ℕ) → (p < q → r ≡ 2 ^ 32 + unit) × (q ≤ p → r + unit ≡ 2 ^ 32) → (p < q → r′ ≡ 2 ^ 32 + unit) × (q ≤ p → r′ + unit ≡ 2 ^ 32) → r ≡ r′
 jump-once p q unit r r′ x y = elim (decLt p q) [
   | yes h ↦ once (x .0 h) (y .0 h)
   | no h ↦ let up = x .1 (omega arith) in let down = y .1 (omega arith) in omega (arith, up, down)

@@ -4,7 +4,7 @@ use mathlib.Core.Path.{_≡_, refl, sym, ap, _∙_}
 use mathlib.Core.Bool.{true}
 use native.Mathlib.Omega.{arith}
 use native.Mathlib.Decide.{decLt}
-use native.Mathlib.Nat.{le-trans, lt-of-lt-of-le, add-mul, zero-mul, one-mul, mul-assoc, mul-pos, mul-le-mul-right, div-mul-le-self, mul-div-cancel, lt-div-mul-add, div-lt-iff-lt-mul}
+use native.Mathlib.Nat.{le-trans, lt-of-lt-of-le, add-mul, zero-mul, one-mul, mul-assoc, mul-pos, mul-le-mul-right, div-mul-le-self, mul-div-cancel, lt-div-mul-add, div-eq-of-lt-le, div-lt-iff-lt-mul}
 use borrow.Author.Tests.{eq-eqb}
 use Rattle.line.specs.declared.line.Line.{Line}
 use Rattle.line.specs.Scene.{plane, Sized, Window, Within}
@@ -14,7 +14,7 @@ use Rattle.line.proofs.Units.{leaveBy, held-by, by-held}
 use Rattle.line.proofs.Stretch.{plane-mono, wayOf, going, enters-by, leaves-by, enter-voxel, leave-voxel, closed, held-array, held-whole, enter-whole, leave-whole, one-voxel, both-some}
 use Rattle.line.proofs.Spots.{afterBy, Below, below-any, In, to-in, from-in}
 
-plane-ticks : (a : Line) (k i : ℕ) → plane a i * k ≡ a .b * k + i * (a .d * k)
+pub plane-ticks : (a : Line) (k i : ℕ) → plane a i * k ≡ a .b * k + i * (a .d * k)
 plane-ticks a k i = omega (arith, add-mul (a .b) (i * a .d) k, mul-assoc i (a .d) k)
 
 pub near-ticks : (a : Line) (k : ℕ) → plane a 0 * k ≡ a .b * k
@@ -22,6 +22,10 @@ near-ticks a k = omega (arith, plane-ticks a k 0, zero-mul (a .d * k))
 
 pub quotient-plane : (a : Line) → Sized a → (k : ℕ) → 0 < k → (i : ℕ) → quotientOf a k (plane a i * k) ≡ i
 quotient-plane a sized k some i = ap (λ (x : ℕ). x / (a .d * k)) (omega (arith, plane-ticks a k i)) ∙ mul-div-cancel i (mul-pos (sized .wide) some)
+
+-- a number that two products show to be the quotient
+pub quotient-near : (a : Line) (k x i : ℕ) → i * (a .d * k) ≤ x - a .b * k → x - a .b * k - i * (a .d * k) < a .d * k → quotientOf a k x ≡ i
+quotient-near a k x i low high = div-eq-of-lt-le (a .d * k) low (omega (arith, add-mul i 1 (a .d * k), one-mul (a .d * k)))
 
 -- ---- the quotient; a still place in the far face is in the last voxel, where the quotient is one too high
 abbrev pub capped : Line → (k x : ℕ) → ℕ

@@ -2,11 +2,12 @@
 -- times c, the rest of D. Of where planes lie only their order is asked. Assumes nothing.
 use Prim.Native.Nat.{ℕ, zero, suc, _+_, _-_, _*_, _≤_, _<_}
 use mathlib.Core.Path.{_≡_, refl, sym, ap, _∙_}
-use mathlib.Core.Bool.{Bool, true}
+use mathlib.Core.Bool.{Bool, true, cond}
 use mathlib.Core.Logic.{⊎-elim}
 use native.Mathlib.Omega.{arith}
 use native.Mathlib.Decide.{decLt}
 use native.Mathlib.Nat.{le-of-eq, mul-le-mul-right, mul-lt-mul-of-pos-right, lt-of-mul-lt-mul-right, add-mul, one-mul, zero-mul, mul-zero}
+use lib.Dec.{ltb}
 use borrow.Author.Tests.{eq-eqb, ne-eqb, lt-ltb, le-ltb}
 use Rattle.line.specs.declared.line.Line.{Line}
 use Rattle.axis.specs.Leg.{slab, held}
@@ -38,6 +39,16 @@ pub way-is : (a : Line) (w : Way) → Goes w (a .p) (a .q) → (x y z : ℕ) →
 way-is a up g x y z = rw (lt-ltb (a .p) (a .q) g) refl
 way-is a down g x y z = rw (le-ltb (a .p) (a .q) (omega arith), lt-ltb (a .q) (a .p) g) refl
 way-is a still g x y z = rw (le-ltb (a .p) (a .q) (omega arith), le-ltb (a .q) (a .p) (omega arith)) refl
+
+-- t more going up and t less going down, with no jump on the way: `more` is added and `less` taken off
+abbrev pub Shifted : Line → (x t more less : ℕ) → Type 0
+Shifted a x t more less = (more ≤ t) × (less ≤ x + more) × (x + more - less ≡ byWay a (x + t) (x - t) x)
+
+pub shift-is : (a : Line) (w : Way) → Goes w (a .p) (a .q) → (x t : ℕ) → (a .q < a .p → t ≤ x) → {more less : ℕ} → more ≡ cond (ltb (a .p) (a .q)) t 0 → less ≡ cond (ltb (a .q) (a .p)) t 0
+    → Shifted a x t more less
+shift-is a up g x t h e k = rw (e, k, lt-ltb (a .p) (a .q) g, le-ltb (a .q) (a .p) (omega arith)) (omega arith, omega arith, omega arith)
+shift-is a down g x t h e k = rw (e, k, le-ltb (a .p) (a .q) (omega arith), lt-ltb (a .q) (a .p) g) (omega arith, omega (arith, h g), omega arith)
+shift-is a still g x t h e k = rw (e, k, le-ltb (a .p) (a .q) (omega arith), le-ltb (a .q) (a .p) (omega arith)) (omega arith, omega arith, omega arith)
 
 module _ (a : Line) (c : ℕ) (w : Way) (g : Goes w (a .p) (a .q)) where
   module _ (i j : ℕ) (h : i ≤ j) where

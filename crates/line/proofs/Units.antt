@@ -72,6 +72,10 @@ run-up p q x g = rw (lt-ltb p q g) (natural-diff x p)
 pub run-down : (p q x : ℕ) → q ≤ p → run (legN p q) (pos x) ≡ p - x
 run-down p q x g = rw (le-ltb p q (omega arith)) (natural-diff p x)
 
+-- with no jump on the way: x less the start going up, else the start less y
+pub aimed-is : (p q x y : ℕ) (f : ℕ → ℕ) {r : ℕ} → (p < q → r ≡ f (x - p)) → (q ≤ p → r ≡ f (p - y)) → f (cond (ltb p q) x p - cond (ltb p q) p y) ≡ r
+aimed-is p q x y f g h = elim (decLt p q) [ yes k ↦ rw (lt-ltb p q k) (sym (g k)) | no k ↦ rw (le-ltb p q (omega arith)) (sym (h (omega arith))) ]
+
 pub enters-is : (w : Way) (p q lo hi rest : ℕ) → Goes w p q → lo ≤ hi → enters rest (legN p q) (slabN lo hi true) ≡ enterBy w p lo hi * rest
 enters-is up p q lo hi rest g h = rw (lt-ltb p q g, natural-diff lo p, natural-diff hi p) (ap (λ (x : ℕ). x * rest) (omega arith))
 enters-is down p q lo hi rest g h =

@@ -6,7 +6,9 @@ ghost use Prim.Native.Nat.{_*_, _^_, _≤_, _<_};
 ghost use Rattle.line.specs.Scene.{Sized, Window, Within};
 ghost use Rattle.line.specs.Beyond.{First, Stretch};
 ghost use Rattle.line.specs.Quotient.{spotOf, quotientOf, backOf};
+use crate::extremes::either;
 use crate::extremes::least;
+use crate::extremes::past;
 use crate::line::Line;
 
 impl Line {
@@ -17,14 +19,9 @@ impl Line {
         ensures { λ r. ⌜ r ≡ spotOf self k t ⌝ }
         ensures { λ r. ⌜ r ≤ 2 ^ 62 ⌝ }
     {
-        let start = self.p * k;
-        if self.p < self.q {
-            return start + t;
-        }
-        if self.q < self.p {
-            return start - t;
-        }
-        start
+        let up = either(self.p < self.q, t, 0);
+        let down = either(self.q < self.p, t, 0);
+        self.p * k + up - down
     }
 
     // How far the place x is from the first plane, by the spacing, and rounded down: the quotient of equations (6) and (12).
@@ -33,6 +30,22 @@ impl Line {
         ensures { λ r. ⌜ r ≡ quotientOf self k x ⌝ }
     {
         (x - self.b * k) / (self.d * k)
+    }
+
+    // The same where `near` may be the answer. That two products tell, and then there is no division, which takes longer.
+    fn quotient_near(self, k: u64, x: u64, near: u64) -> u64
+        requires { ⌜ Sized self × (0 < k) × (k ≤ 2 ^ 41) × (self .b * k ≤ x) × (near ≤ self .n) ⌝ }
+        ensures { λ r. ⌜ r ≡ quotientOf self k x ⌝ }
+    {
+        let along = x - self.b * k;
+        let wide = self.d * k;
+        let low = near * wide;
+        if low <= along {
+            if along - low < wide {
+                return near;
+            }
+        }
+        self.quotient(k, x)
     }
 
     // 1 where the ray goes down, else 0.
@@ -59,16 +72,18 @@ impl Line {
         self.quotient(c, x) + (1 - back)
     }
 
-    // The voxel of a stretch that no plane of the axis cuts.
-    pub fn index(self, c: u64, from: u64, next: u64) -> u64
-        requires { ⌜ Sized self × (c ≤ 2 ^ 40) × Window self c from ⌝ }
+    // The voxel of a stretch that no plane of the axis cuts. Whichever plane `first` is, the answer is the same; it is found sooner where
+    // that is the plane ahead.
+    pub fn index(self, c: u64, from: u64, next: u64, first: u64) -> u64
+        requires { ⌜ Sized self × (c ≤ 2 ^ 40) × Window self c from × (first ≤ self .n) ⌝ }
         requires { ⌜ Stretch self c from next ⌝ }
         ensures { λ r. ⌜ Within self c from r ⌝ }
     {
         // (13): the middle is at α = (from + next) / 2D. On a moving axis D is c |q - p|, so its place is whole in half ticks, 2c to a unit.
         let middle = self.spot(2 * c, from + next);
         // (12), less the 1 that the paper counts from: the bracket and the spacing, both in half ticks.
-        let i = self.quotient(2 * c, middle);
+        let near = past(1 - self.back(), first);
+        let i = self.quotient_near(2 * c, middle, near);
         // Only for a still ray in the far face, which belongs to the last voxel (RULES 2), is that one too high.
         least(i, self.n - 1)
     }

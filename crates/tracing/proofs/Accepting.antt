@@ -9,7 +9,7 @@ use lib.ListN.{length}
 use borrow.Author.Tests.{not-false, eqb-true, eq-eqb, ne-eqb, ltb-false, lt-ltb, le-ltb}
 use Rattle.axis.specs.declared.Limits.{Limits}
 use Rattle.axis.specs.Codes.{tenths, Row, first, row}
-use Rattle.axis.proofs.Table.{then, then-on, then-none, joined, row-off}
+use Rattle.axis.proofs.Table.{then, then-on, then-stop, then-none, joined, row-off}
 use Rattle.ray.specs.declared.Grid.{Grid}
 use Rattle.ray.specs.declared.Ray.{Ray}
 use Rattle.ray.specs.declared.Lent.{Lent}
@@ -38,8 +38,12 @@ module _ (m : Limits) (g : Grid) (r : Ray) (l : Lent) where
       joined (gridRows m g) (densities ∷ (endRows m r ++ (lists ∷ []))) refl
       ∙ ap (λ (c : ℕ). then (first (gridRows m g)) (cond (densities .applies) 4 c)) (joined (endRows m r) (lists ∷ []) refl)
 
-  pub front-then : codeOf m g r l ≡ then (first (frontRows m g r l)) (cond (room .applies) 8 0)
+  front-then : codeOf m g r l ≡ then (first (frontRows m g r l)) (cond (room .applies) 8 0)
   front-then = joined (frontRows m g r l) (room ∷ []) refl
+
+  -- a code from 1 to 7 is that of the trace
+  pub stopped : {c : ℕ} → c ≡ first (frontRows m g r l) → (c ≡ 0 → ⊥) → c ≡ codeOf m g r l
+  stopped e h = sym (front-then ∙ then-stop _ _ (λ z. h (e ∙ z)) ∙ sym e)
 
   -- what no code from 1 to 7 means, and the other way round
   pub accepted : first (frontRows m g r l) ≡ 0 → Accepted m g r l

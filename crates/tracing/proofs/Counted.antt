@@ -1,10 +1,11 @@
 -- What RULES 3 and 4 say of the numbers that a trace hands back, for every grid and ends that are accepted, at any limits that are
 -- small enough. Assumes nothing.
-use Prim.Native.Nat.{ℕ, _+_, _-_, _^_, _≤_, _<_}
+use Prim.Native.Nat.{ℕ, _+_, _-_, _*_, _^_, _≤_, _<_}
 use mathlib.Core.Path.{_≡_, refl, sym, ap, _∙_}
 use mathlib.Core.Bool.{Bool, true, false, cond}
-use mathlib.Core.List.{List, [], map}
+use mathlib.Core.List.{List, [], _∷_, map, sum}
 use native.Mathlib.Omega.{arith}
+use native.Mathlib.Nat.{mul-le-mul-left, add-mul}
 use lib.IntN.{pos}
 use lib.ListN.{length, getD}
 use Rattle.axis.specs.declared.Limits.{Limits}
@@ -24,7 +25,6 @@ use Rattle.line.specs.Raised.{Small, sceneOf}
 use Rattle.line.proofs.Raised.{able, moved, d-most}
 use Rattle.walk.proofs.Counts as Walked
 use Rattle.tracing.specs.Inside.{Suited}
-use Rattle.tracing.proofs.Weighing.{weighed-most, weighed-list}
 
 -- what is handed back of a ray that misses
 pub record Nothing (v : Volume) (r : Ray) : Type 0 where
@@ -102,6 +102,12 @@ span-d v r = go (misses v r)
     go true = omega arith
     go false = less (stop r (array v)) (start r (array v)) (dOf r) (stop-cap r (array v))
 
+-- a sum of products is at most the sum of one factor by the most of the other
+sum-most : {most : ℕ} (part density : ℕ → ℕ) → ((m : ℕ) → density m ≤ most) → (ms : List ℕ) → sumList (map (λ m. part m * density m) ms) ≤ sumList (map part ms) * most
+unfolding sum
+sum-most part density h [] = omega arith
+sum-most {most} part density h (m ∷ ms) = omega (arith, sum-most part density h ms, mul-le-mul-left (part m) (h m), add-mul (part m) (sumList (map part ms)) most)
+
 module _ (m : Limits) (suited : Suited m) (g : Grid) (r : Ray) (grid : first (gridRows m g) ≡ 0) (ends : first (endRows m r) ≡ 0) where
   -- RULES 3: the most that D is
   pub d-small : dOf r ≤ 2 ^ 45
@@ -112,15 +118,13 @@ module _ (m : Limits) (suited : Suited m) (g : Grid) (r : Ray) (grid : first (gr
     d-moved (on m (suited .small) g r grid ends),
   )
 
-  pub parts-small : sumList (map (partOf (volume g) r) (listOf (volume g) r)) ≤ 2 ^ 45
-  parts-small = omega (arith, parts-span m (suited .small) g r grid ends, span-d (volume g) r, d-small)
-
   -- RULES 3: the sum stays below 2^61, densities being at most 65535
   pub sum-small : (densities : List ℕ) → ((w : ℕ) → getD densities w 0 ≤ 65535) → sumOf (volume g) r densities < 2 ^ 61
   sum-small densities dense = omega (
     arith,
     sum-list (volume g) r densities,
-    weighed-list (partOf (volume g) r) densities (listOf (volume g) r),
-    weighed-most densities dense (listOf (volume g) r) (map (partOf (volume g) r) (listOf (volume g) r)),
-    parts-small,
+    sum-most (partOf (volume g) r) (λ m. getD densities m 0) dense (listOf (volume g) r),
+    parts-span m (suited .small) g r grid ends,
+    span-d (volume g) r,
+    d-small,
   )

@@ -2,7 +2,7 @@
 -- beside each; and the weighted sum. Assumes nothing.
 use Prim.Native.Nat.{ℕ, zero, suc, _*_, _≤_, _<_}
 use mathlib.Core.Path.{_≡_, refl, sym, ap}
-use mathlib.Core.List.{List, [], _∷_, map, List·Memᴰ, Memᴰ·cast}
+use mathlib.Core.List.{List, [], _∷_, map, List·Memᴰ, List·Memᴰ·head, List·Memᴰ·tail, Memᴰ·cast}
 use native.Mathlib.Omega.{arith}
 use native.Mathlib.Decide.{decLt}
 use lib.ListN.{length, getD, set, length-set}
@@ -21,9 +21,13 @@ use Rattle.ray.proofs.Formula.{lengthIn, voxel-length}
 use Rattle.ray.proofs.Equation1.{equation1, equation1-is}
 use Rattle.axis.specs.declared.Limits.{Limits}
 use Rattle.tracing.specs.Answer.{lists, answerOf}
-use Rattle.tracing.proofs.Summing.{getD-member}
 
 -- ---- lists
+getD-member : (xs : List ℕ) (i : ℕ) → i < length xs → List·Memᴰ (getD xs i 0) xs
+getD-member [] i h = absurd (omega arith)
+getD-member (x ∷ xs) zero h = List·Memᴰ·head refl
+getD-member (x ∷ xs) (suc i) h = List·Memᴰ·tail (getD-member xs i (omega arith))
+
 rising-at : (f : ℕ → ℕ) (xs : List ℕ) → Rising f xs → (i j : ℕ) → i < j → j < length xs → f (getD xs i 0) < f (getD xs j 0)
 rising-at f [] rise i j h k = absurd (omega arith)
 rising-at f (x ∷ xs) rise i zero h k = absurd (omega arith)

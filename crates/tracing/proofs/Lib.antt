@@ -1,6 +1,5 @@
 -- Laws of the trace.
 pub mod Accepting
-pub mod Weighing
 pub mod Summing
 pub mod Answering
 pub mod Appending

@@ -1,7 +1,7 @@
 -- What one call holds, accepted or refused: read off the promises of `trace` and `append`, and nothing else. Assumes nothing.
 use Prim.Native.Nat.{ℕ, _+_, _≤_, _<_}
 use mathlib.Core.Path.{_≡_, refl, sym, ap, _∙_}
-use mathlib.Core.Bool.{false, cond}
+use mathlib.Core.Bool.{Bool, true, false, cond}
 use mathlib.Core.List.{List, _++_, map, List·Memᴰ}
 use native.Mathlib.Omega.{arith}
 use native.Mathlib.Decide.{ℕ-discrete}
@@ -21,6 +21,7 @@ use Rattle.ray.proofs.Formula.{lengthIn}
 use Rattle.ray.proofs.Equation1.{equation1}
 use Rattle.tracing.specs.declared.Trace.{Trace}
 use Rattle.tracing.specs.Answer.{Lists, lists, lent, codeOf, refused, accepted, answerOf, written, voxelsAfter, partsAfter, Answers}
+use Rattle.tracing.specs.Inside.{AnswersWhen}
 use Rattle.tracing.proofs.Demand2.{lengths, sum-over-all, answer-altered}
 use Rattle.tracing.proofs.Accepting.{Free, code-free, free-code}
 
@@ -125,6 +126,16 @@ module _ {m : Limits} {g : Grid} {r : Ray} {l : Lists} {a : Trace} {vs′ ps′ 
     pub parts-unchanged : ps′ ≡ l .parts
     unfolding partsAfter
     parts-unchanged = t .parts-now ∙ rw code-not-0 refl
+
+-- ---- a call that is told whether it may write: its code, and a refusal
+module _ {m : Limits} {g : Grid} {r : Ray} {l : Lists} {a : Trace} {vs′ ps′ : List ℕ} where
+  pub when-code : (ready : Bool) → AnswersWhen ready m g r l a vs′ ps′ → a .code ≡ codeOf m g r (lent l)
+  when-code true t = code-is (t .made refl)
+  when-code false t = ap (λ (x : Trace). x .code) (t .asked refl .answer)
+
+  pub when-refused : (ready : Bool) → AnswersWhen ready m g r l a vs′ ps′ → (a .code ≡ 0 → ⊥) → (vs′ ≡ l .voxels) × (ps′ ≡ l .parts)
+  when-refused true t h = (voxels-unchanged (t .made refl) h, parts-unchanged (t .made refl) h)
+  when-refused false t h = (t .asked refl .voxels-now, t .asked refl .parts-now)
 
 -- ---- a trace that is accepted
 module _ {m : Limits} {g : Grid} {r : Ray} {densities vs ps vs′ ps′ : List ℕ} {a : Trace} (t : Traced m g r densities vs ps a vs′ ps′) (h : a .code ≡ 0) where

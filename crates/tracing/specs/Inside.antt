@@ -1,8 +1,8 @@
 -- What tracing's inner functions say to each other. A reader of the promises needs none of it. Definitions only. Assumes nothing.
-use Prim.Native.Nat.{ℕ, _+_, _*_, _^_, _≤_, _<_}
+use Prim.Native.Nat.{ℕ, _+_, _^_, _≤_}
 use mathlib.Core.Path.{_≡_}
-use mathlib.Core.List.{List, [], _∷_, sum}
-use lib.ListN.{length, getD}
+use mathlib.Core.Bool.{Bool, true, false}
+use mathlib.Core.List.{List}
 use Rattle.axis.specs.declared.Limits.{Limits}
 use Rattle.axis.specs.Codes.{first}
 use Rattle.ray.specs.declared.Grid.{Grid}
@@ -11,6 +11,8 @@ use Rattle.ray.specs.declared.Lent.{Lent}
 use Rattle.ray.specs.Length.{volume, count}
 use Rattle.ray.specs.Codes.{gridRows, endRows}
 use Rattle.line.specs.Raised.{Small, cube}
+use Rattle.tracing.specs.declared.Trace.{Trace}
+use Rattle.tracing.specs.Answer.{Lists, lent, codeOf, refused, Answers}
 
 -- limits at which a ray can be traced and summed up: the walk's, and that D is small enough for the sum
 pub record Suited (m : Limits) : Type 0 where
@@ -24,16 +26,12 @@ pub record Accepted (m : Limits) (g : Grid) (r : Ray) (l : Lent) : Type 0 where
   pub densities-are : l .densities ≡ count (volume g)
   pub lists-are : l .voxels ≡ l .parts
 
--- the sum of part·density over entries
-abbrev pub weighed : List ℕ → List ℕ → List ℕ → ℕ
-weighed densities [] ps = 0
-weighed densities (v ∷ vs) [] = 0
-weighed densities (v ∷ vs) (p ∷ ps) = p * getD densities v 0 + weighed densities vs ps
+-- where a call may not write: the code alone, and both lists as they were
+pub record Asked (m : Limits) (g : Grid) (r : Ray) (l : Lists) (a : Trace) (voxels parts : List ℕ) : Type 0 where
+  pub answer : a ≡ refused (codeOf m g r (lent l))
+  pub voxels-now : voxels ≡ l .voxels
+  pub parts-now : parts ≡ l .parts
 
-abbrev pub summed : List ℕ → ℕ
-summed ps = sum _+_ 0 ps
-
-pub record Weighable (densities voxels parts : List ℕ) : Type 0 where
-  pub lists : length voxels ≡ length parts
-  pub within : (i : ℕ) → i < length voxels → getD voxels i 0 < length densities
-  pub parts-size : summed parts ≤ 2 ^ 45
+pub record AnswersWhen (ready : Bool) (m : Limits) (g : Grid) (r : Ray) (l : Lists) (a : Trace) (voxels parts : List ℕ) : Type 0 where
+  pub made : ready ≡ true → Answers m g r l a voxels parts
+  pub asked : ready ≡ false → Asked m g r l a voxels parts

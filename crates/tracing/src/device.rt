@@ -1,17 +1,15 @@
 // The calls at the limits of any device that suits the walk and the sum.
 ghost use mathlib.Core.Path.{_≡_};
-ghost use Rattle.line.specs.Raised.{Small};
-ghost use Rattle.tracing.specs.Answer.{codeOf, refused, lists, Answers};
-ghost use Rattle.tracing.specs.Inside.{Suited};
+ghost use mathlib.Core.Bool.{cond};
+ghost use Rattle.tracing.specs.Answer.{refused, lists, Answers};
+ghost use Rattle.tracing.specs.Inside.{Suited, AnswersWhen};
 use crate::Trace;
 use crate::accept::front_code;
-use crate::weigh::weigh;
 use axis::Limits;
 use line::scene::scene_of;
 use ray::Grid;
 use ray::Lent;
 use ray::Ray;
-use walk::call::entries_of;
 use walk::call::walk;
 
 fn refusal(code: u32) -> Trace
@@ -28,17 +26,25 @@ fn refusal(code: u32) -> Trace
     }
 }
 
-// Traces one ray into the front of the two lent lists.
-pub fn trace(
+fn room_of(ready: bool, places: usize) -> usize
+    ensures { λ n. ⌜ n ≡ cond ready places 0 ⌝ }
+{
+    if ready { places } else { 0 }
+}
+
+// Traces one ray into the front of the two lent lists where `ready`, and else tells only the code that the trace would have. It has one
+// way down for both: so all of it is compiled into the call that uses it, and nothing is handed on in memory.
+pub fn trace_when(
     m: Limits,
     g: Grid,
     r: Ray,
     densities: &[u16],
     voxels: &mut [u32],
     parts: &mut [u64],
+    ready: bool,
 ) -> Trace
     requires { ⌜ Suited m ⌝ }
-    ensures { λ a. ⌜ Answers m g r (lists (now (densities .entry)) (now (voxels .entry)) (now (parts .entry)) 0) a (now (voxels .exit)) (now (parts .exit)) ⌝ }
+    ensures { λ a. ⌜ AnswersWhen ready m g r (lists (now (densities .entry)) (now (voxels .entry)) (now (parts .entry)) 0) a (now (voxels .exit)) (now (parts .exit)) ⌝ }
 {
     let lent = Lent {
         densities: densities.len(),
@@ -51,39 +57,38 @@ pub fn trace(
         return refusal(code);
     }
     let s = scene_of(m, g, r);
-    let w = walk(s, voxels, parts);
-    let n = w.entries;
-    if lent.voxels < n {
+    let room = room_of(ready, lent.voxels);
+    let w = walk(s, room, densities, voxels, parts);
+    if lent.voxels < w.entries {
         return refusal(8);
     }
-    let sum = weigh(densities, &voxels[..n], &parts[..n]);
-    Trace {
-        entries: n,
-        crossed: w.crossed,
-        span: w.span,
-        denominator: w.denominator,
-        squared: w.squared,
-        sum,
-        code: 0,
+    if ready {
+        return Trace {
+            entries: w.entries,
+            crossed: w.crossed,
+            span: w.span,
+            denominator: w.denominator,
+            squared: w.squared,
+            sum: w.sum,
+            code: 0,
+        };
     }
+    refusal(0)
 }
 
-// The code of a trace that is not made, from the lengths alone.
-pub fn code_of(m: Limits, g: Grid, r: Ray, lent: Lent) -> u32
-    requires { ⌜ Small m ⌝ }
-    ensures { λ c. ⌜ c ≡ codeOf m g r lent ⌝ }
+// Traces one ray into the front of the two lent lists.
+pub fn trace(
+    m: Limits,
+    g: Grid,
+    r: Ray,
+    densities: &[u16],
+    voxels: &mut [u32],
+    parts: &mut [u64],
+) -> Trace
+    requires { ⌜ Suited m ⌝ }
+    ensures { λ a. ⌜ Answers m g r (lists (now (densities .entry)) (now (voxels .entry)) (now (parts .entry)) 0) a (now (voxels .exit)) (now (parts .exit)) ⌝ }
 {
-    let code = front_code(m, g, r, lent);
-    if code != 0 {
-        return code;
-    }
-    if lent.voxels < lent.filled {
-        return 8;
-    }
-    if lent.voxels - lent.filled < entries_of(scene_of(m, g, r)) {
-        return 8;
-    }
-    0
+    trace_when(m, g, r, densities, voxels, parts, true)
 }
 
 // A trace behind the first `filled` places of the lists, of which it touches none.
@@ -117,5 +122,10 @@ pub fn append(
         parts: parts.len(),
         filled,
     };
-    refusal(code_of(m, g, r, lent))
+    let code = front_code(m, g, r, lent);
+    if code != 0 {
+        return refusal(code);
+    }
+    // More places are said to be filled than there are: not even a miss has room.
+    refusal(8)
 }

@@ -2,7 +2,6 @@
 mod accept;
 pub mod calls;
 pub mod device;
-mod weigh;
 
 // What a trace hands back beside the two lists. Where the code is not 0 every other field is.
 pub struct Trace {

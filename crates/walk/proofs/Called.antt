@@ -1,29 +1,32 @@
 -- What the one call of the walk comes to, from what it finds on the way. Assumes nothing.
-use Prim.Native.Nat.{ℕ, _+_, _-_, _≤_, _<_}
-use mathlib.Core.Path.{_≡_, refl, sym, ap, _∙_}
-use mathlib.Core.Bool.{true, false}
-use mathlib.Core.List.{List}
+use Prim.Native.Nat.{ℕ, _+_, _-_, _*_, _^_, _≤_, _<_}
+use mathlib.Core.Path.{_≡_, refl, sym, ap, subst, _∙_}
+use mathlib.Core.Bool.{Bool, true, false, cond}
+use mathlib.Core.List.{List, [], _∷_, map, sum, List·Memᴰ, List·Memᴰ·head, List·Memᴰ·tail}
 use native.Mathlib.Omega.{arith}
-use lib.ListN.{length, take, drop, length-map, take-append-drop}
+use native.Mathlib.Nat.{le-trans}
+use lib.ListN.{length, getD, length-map}
+use lib.Dec.{leb}
 use borrow.Author.Tests.{not-true, not-false, le-leb, lt-leb}
 use Rattle.ray.specs.declared.Ray.{Ray}
-use Rattle.ray.specs.Length.{Volume, squaredOf, misses, spanOf, listOf, crossedOf}
+use Rattle.ray.specs.Length.{Volume, count, dOf, squaredOf, misses, spanOf, partOf, listOf, sumOf, crossedOf}
+use Rattle.ray.proofs.Total.{sumList}
+use Rattle.ray.proofs.Listing.{list-sound}
+use Rattle.ray.proofs.Weighted.{sum-list}
 use Rattle.line.specs.declared.scene.Scene.{Scene}
 use Rattle.line.specs.Scene.{volumeOf, rayOf, Able}
 use Rattle.walk.specs.declared.plan.Frame.{Frame}
 use Rattle.walk.specs.declared.plan.Plan.{Plan}
 use Rattle.walk.specs.declared.call.Walked.{Walked}
-use Rattle.walk.specs.Model.{Entry, voxels, parts, entries, Filled}
+use Rattle.walk.specs.declared.entries.Tally.{Tally}
+use Rattle.walk.specs.Model.{Entry, voxels, parts, entries, weight, Dense, tallyOf, Filled}
 use Rattle.walk.specs.Plan.{Framed, Planned}
-use Rattle.walk.specs.Walked.{walkedOf, fitted, Fitted, Entered}
+use Rattle.walk.specs.Walked.{walkedOf, Fitted, Entered}
+use Rattle.walk.proofs.Walking.{cut-le}
 use Rattle.walk.proofs.Plans.{proper}
-use Rattle.walk.proofs.Counts.{entries-crossed, missed-list}
+use Rattle.walk.proofs.Counts.{entries-few, missed-list, missed-sum}
 
--- new values in front and the rest as it was, in a list that has room
-front : (n : ℕ) (now old new : List ℕ) → n ≡ length new → n ≤ length old → take n now ≡ new → drop n now ≡ drop n old → now ≡ fitted new old
-front n now old new l h e k = sym (take-append-drop n now) ∙ rw (e, k, le-leb (length new) (length old) (omega arith), l) refl
-
-module _ (es : List Entry) (n : ℕ) where
+module _ (es : List Entry) (room : ℕ) where
   voxels-number : length (voxels es) ≡ length es
   voxels-number = length-map es (λ (e : Entry). e .voxel)
 
@@ -31,19 +34,39 @@ module _ (es : List Entry) (n : ℕ) where
   parts-number = length-map es (λ (e : Entry). e .part)
 
   -- with room, and without
-  pub roomy : {vs ps vs₀ ps₀ : List ℕ} → Filled es n vs ps vs₀ ps₀ → length es ≤ length vs₀ → length vs₀ ≡ length ps₀ → Entered es n vs ps vs₀ ps₀
-  roomy {vs} {ps} {vs₀} {ps₀} f h e = record {
-    number = f .number;
-    voxels-now = front n vs vs₀ (voxels es) (f .number ∙ sym voxels-number) (omega (arith, f .number)) (f .voxels-are) (f .voxels-rest);
-    parts-now = front n ps ps₀ (parts es) (f .number ∙ sym parts-number) (omega (arith, f .number)) (f .parts-are) (f .parts-rest);
+  pub roomy : {densities vs ps vs₀ ps₀ : List ℕ} {t : Tally} → length es ≤ room → t ≡ tallyOf densities es → Filled es vs ps vs₀ ps₀ → Entered densities es room t vs ps vs₀ ps₀
+  roomy h e f = record {
+    tally-is = e ∙ rw (le-leb (length es) room h) refl;
+    voxels-now = f .voxels-now ∙ rw (voxels-number, le-leb (length es) room h) refl;
+    parts-now = f .parts-now ∙ rw (parts-number, le-leb (length es) room h) refl;
   }
 
-  pub cramped : {vs₀ ps₀ : List ℕ} → n ≡ length es → length vs₀ < n → length vs₀ ≡ length ps₀ → Entered es n vs₀ ps₀ vs₀ ps₀
-  cramped {vs₀} {ps₀} number h e = record {
-    number = number;
-    voxels-now = rw (lt-leb (length (voxels es)) (length vs₀) (omega (arith, voxels-number))) refl;
-    parts-now = rw (lt-leb (length (parts es)) (length ps₀) (omega (arith, parts-number))) refl;
-  }
+  pub cramped : {densities vs₀ ps₀ : List ℕ} {n : ℕ} → n ≡ length es → room < n → Entered densities es room (record { entries = n; crossed = 0; sum = 0 }) vs₀ ps₀ vs₀ ps₀
+  cramped number h =
+      let short : leb (length es) room ≡ false = lt-leb (length es) room (omega arith) in
+      record { tally-is = rw (number, short) refl; voxels-now = rw (voxels-number, short) refl; parts-now = rw (parts-number, short) refl }
+
+-- the weighted sum by the two lists, and by the parts of one
+abbrev weigh : List ℕ → List ℕ → List ℕ → ℕ
+weigh densities [] ps = 0
+weigh densities (v ∷ vs) [] = 0
+weigh densities (v ∷ vs) (p ∷ ps) = p * getD densities v 0 + weigh densities vs ps
+
+weigh-entries : (densities : List ℕ) (es : List Entry) → weight densities es ≡ weigh densities (voxels es) (parts es)
+weigh-entries densities [] = refl
+weigh-entries densities (e ∷ es) = ap (λ (x : ℕ). e .part * getD densities (e .voxel) 0 + x) (weigh-entries densities es)
+
+weigh-list : (part : ℕ → ℕ) (densities vs : List ℕ) → weigh densities vs (map part vs) ≡ sumList (map (λ m. part m * getD densities m 0) vs)
+unfolding sum
+weigh-list part densities [] = refl
+weigh-list part densities (v ∷ vs) = ap (λ (x : ℕ). part v * getD densities v 0 + x) (weigh-list part densities vs)
+
+-- what is told with room, and without
+by-room : (b : Bool) {t : Tally} (n crossed sum : ℕ) {span d squared : ℕ} → t ≡ cond b (record { entries = n; crossed = crossed; sum = sum }) (record { entries = n; crossed = 0; sum = 0 })
+    → _≡_ {A = Walked} (record { entries = t .entries; crossed = t .crossed; span = span; denominator = d; squared = squared; sum = t .sum })
+    (record { entries = n; crossed = cond b crossed 0; span = span; denominator = d; squared = squared; sum = cond b sum 0 })
+by-room true n crossed sum e = rw e refl
+by-room false n crossed sum e = rw e refl
 
 module _ {s : Scene} (able : Able s) {f : Frame} (framed : Framed s f) where
   abbrev v : Volume
@@ -51,6 +74,10 @@ module _ {s : Scene} (able : Able s) {f : Frame} (framed : Framed s f) where
 
   abbrev r : Ray
   r = rayOf s
+
+  -- the walk ends with the ray
+  pub until-few : dOf r ≤ 2 ^ 48 → f .to ≤ 2 ^ 48
+  until-few h = rw (framed .to-is) (le-trans (cut-le (dOf r) _) h)
 
   module _ (hit : f .hit ≡ true) {p : Plan} (planned : Planned s (f .to) p) where
     abbrev es : List Entry
@@ -66,14 +93,26 @@ module _ {s : Scene} (able : Able s) {f : Frame} (framed : Framed s f) where
     pub number : length es ≡ length (listOf v r)
     number = sym (length-map es (λ (e : Entry). e .voxel)) ∙ ap length (planned .voxels-are)
 
-    pub few : length es ≤ p .crossed + 1
-    few = omega (arith, number, entries-crossed s able, planned .crossed-is)
+    pub few : length es + 2 ≤ s .x .n + s .y .n + s .z .n
+    few = omega (arith, number, entries-few s able)
 
-    pub hit-walked : {vs ps vs₀ ps₀ : List ℕ} (n squared : ℕ) → Entered es n vs ps vs₀ ps₀ → squared ≡ squaredOf r
-        → (_≡_ {A = Walked} (record { entries = n; crossed = p .crossed; span = f .to - f .from; denominator = f .denominator; squared = squared }) (walkedOf v r))
-        × Fitted v r vs ps vs₀ ps₀
-    hit-walked n squared e k = (
-      rw (e .number, number, planned .crossed-is, span-is, framed .denominator-is, k) refl,
+    -- every voxel listed has a density
+    pub dense : (densities : List ℕ) → length densities ≡ count v → Dense densities es
+    dense densities l = all-dense es (λ m h. omega (arith, l, list-sound v r m (subst (List·Memᴰ m) (planned .voxels-are) h) .0))
+      where
+        all-dense : (es : List Entry) → ((m : ℕ) → List·Memᴰ m (voxels es) → m < length densities) → Dense densities es
+        all-dense [] h = tt
+        all-dense (e ∷ es) h = (h (e .voxel) (List·Memᴰ·head refl), all-dense es (λ m k. h m (List·Memᴰ·tail k)))
+
+    weight-is : (densities : List ℕ) → weight densities es ≡ sumOf v r densities
+    weight-is densities =
+        weigh-entries densities es ∙ rw (planned .voxels-are, planned .parts-are) (weigh-list (partOf v r) densities (listOf v r)) ∙ sym (sum-list v r densities)
+
+    pub hit-walked : {densities vs ps vs₀ ps₀ : List ℕ} {room : ℕ} (t : Tally) (squared : ℕ) → Entered densities es room t vs ps vs₀ ps₀ → squared ≡ squaredOf r
+        → (_≡_ {A = Walked} (record { entries = t .entries; crossed = t .crossed; span = f .to - f .from; denominator = f .denominator; squared = squared; sum = t .sum }) (walkedOf v r densities room))
+        × Fitted v r room vs ps vs₀ ps₀
+    hit-walked {densities} {room = room} t squared e k = (
+      by-room (leb (length es) room) _ _ _ (e .tally-is) ∙ rw (number, planned .crossed-is, weight-is densities, span-is, framed .denominator-is, k) refl,
       record { voxels-now = rw (planned .voxels-are) at (e .voxels-now); parts-now = rw (planned .parts-are) at (e .parts-now) },
     )
 
@@ -81,16 +120,11 @@ module _ {s : Scene} (able : Able s) {f : Frame} (framed : Framed s f) where
     missed : misses v r ≡ true
     missed = not-false _ (sym (framed .hit-is) ∙ miss)
 
-    pub none : 0 ≡ length (listOf v r)
-    none = ap length (sym (missed-list s able missed))
-
-    pub miss-walked : {vs ps : List ℕ} (squared : ℕ) → squared ≡ squaredOf r
-        → (_≡_ {A = Walked} (record { entries = 0; crossed = 0; span = 0; denominator = f .denominator; squared = squared }) (walkedOf v r)) × Fitted v r vs ps vs ps
+    pub miss-walked : (densities : List ℕ) (room : ℕ) {vs ps : List ℕ} (squared : ℕ) → squared ≡ squaredOf r
+        → (_≡_ {A = Walked} (record { entries = 0; crossed = 0; span = 0; denominator = f .denominator; squared = squared; sum = 0 }) (walkedOf v r densities room)) × Fitted v r room vs ps vs ps
     unfolding spanOf crossedOf
-    miss-walked {vs} {ps} squared k = (
-      rw (framed .denominator-is, k, missed-list s able missed, missed) refl,
-      record {
-        voxels-now = rw (missed-list s able missed, le-leb 0 (length vs) (omega arith)) refl;
-        parts-now = rw (missed-list s able missed, le-leb 0 (length ps) (omega arith)) refl;
-      },
-    )
+    miss-walked densities room squared k =
+        let none : leb 0 room ≡ true = le-leb 0 room (omega arith) in (
+          rw (framed .denominator-is, k, missed-list s able missed, missed-sum s able densities missed, missed, none) refl,
+          record { voxels-now = rw (missed-list s able missed, none) refl; parts-now = rw (missed-list s able missed, none) refl },
+        )

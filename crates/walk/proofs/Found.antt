@@ -1,23 +1,26 @@
 -- What the walk's entries are, once it is known to be walking: ray's list, with its parts, which add up to what is left of the
 -- span. One induction over the turns carries each. Assumes nothing.
 use Prim.Native.Nat.{ℕ, zero, suc, _+_, _-_, _≤_, _<_}
-use mathlib.Core.Path.{_≡_, refl, sym, subst}
+use mathlib.Core.Path.{_≡_, refl, sym, subst, _∙_}
 use mathlib.Core.List.{List, [], _∷_, _++_, map, sum, append-assoc}
 use native.Mathlib.Omega.{arith}
 use native.Mathlib.Decide.{decLe}
-use Rattle.ray.specs.Length.{Side, count, partOf, listOf}
+use Rattle.ray.specs.Length.{Side, X, Y, Z, rest, count, partOf, listOf}
 use Rattle.ray.proofs.Apart.{starts-apart}
 use Rattle.ray.proofs.Total.{sumList}
 use Rattle.ray.proofs.Listing.{Listed, SoFar, starts, one-more, none-yet, all-found, list-is}
 use Rattle.line.specs.declared.scene.Scene.{Scene}
-use Rattle.line.specs.Scene.{Able}
+use Rattle.line.specs.Scene.{line, Able, Within}
+use Rattle.line.specs.Reach.{crossedOn}
+use Rattle.line.proofs.Three.{least-le}
+use Rattle.line.proofs.Crossing.{crossed-is}
 use Rattle.line.proofs.Scenes.{vol, ray, scene-rise, met, fromOf, toOf}
 use Rattle.walk.specs.declared.steps.Walk.{Walk}
 use Rattle.walk.specs.declared.steps.Strides.{Strides}
-use Rattle.walk.specs.Model.{soonest, stepped, Entry, entry, voxels, parts, entries, Forward}
+use Rattle.walk.specs.Model.{leaveOf, soonest, stepped, Entry, entry, voxels, parts, entries, planesBy, Forward}
 use Rattle.walk.proofs.Turns.{forward-on, step-tick, entries-last, entries-more}
 use Rattle.ray.proofs.Indices.{number}
-use Rattle.walk.proofs.Walking.{Paced, Walking, start-late, stop-soon, here-below, here-start, here-only, soon-later, part-more, part-last, number-kept, walking-on}
+use Rattle.walk.proofs.Walking.{Paced, gap, between, Walking, start-late, stop-soon, here-below, here-start, here-only, soon-later, part-more, part-last, number-kept, planes-kept, walking-on}
 
 fewer : (to t u m : ℕ) → to - t ≤ suc m → t < u → to - u ≤ m
 fewer to t u m h k = omega arith
@@ -69,6 +72,28 @@ module _ {s : Scene} (able : Able s) {t : Strides} (paced : Paced s t) where
         rw (number-kept able on)
         (rw append-assoc at (rest (vs ++ (number (vol s) at ∷ [])) (rw (step-tick t w) (one-found (soonest w) l (omega arith) (omega (arith, part-more able on h)) vs so))))
 
+  -- the planes that the ray crosses on an axis
+  abbrev pub on-side : Side → ℕ
+  on-side o = crossedOn (line s o) (rest (ray s) o) (fromOf s) (toOf s)
+
+  module _ {w : Walk} {at : Side → ℕ} (on : Walking s w at) (b : w .t < toOf s) (h : toOf s ≤ soonest w) where
+    -- the last voxel is that of the last tick
+    last-within : (o : Side) → Within (line s o) (rest (ray s) o) (toOf s - 1) (at o)
+    last-within o = record {
+      inside = on .within o .inside;
+      holds = on .within o .holds;
+      since = omega (arith, on .within o .since);
+      until = omega (arith, least-le (leaveOf w) o, on .leaves o);
+    }
+
+    since-first : fromOf s < toOf s
+    since-first = omega (arith, start-late s (number (vol s) at) (here-below able on), here-start able on)
+
+    all-sides : between (on .first) at ≡ on-side X + on-side Y + on-side Z
+    all-sides =
+        let one : (o : Side) → gap (on .first) at o ≡ on-side o = λ o. crossed-is (line s o) (rest (ray s) o) (able .sized o) (fromOf s) (toOf s) (on .first o) (at o) (on .began o) (last-within o) since-first in
+        omega (arith, one X, one Y, one Z)
+
   module _ {w : Walk} {at : Side → ℕ} (on : Walking s w at) (f : Forward t (toOf s) w) where
     pub found-list : w .t ≡ fromOf s → voxels (entries t (toOf s) w) ≡ listOf (vol s) (ray s)
     found-list e =
@@ -87,3 +112,7 @@ module _ {s : Scene} (able : Able s) {t : Strides} (paced : Paced s t) where
     found-total =
         walk-all (λ w es. sumList (parts es) ≡ toOf s - w .t)
         (λ w at on b h. omega arith) (λ w at on h es rest. adds-up (toOf s) (w .t) (soonest w) _ _ (soon-later able on) h (step-tick t w) rest) on f
+
+    -- the planes crossed before the last entry are those between αmin and αmax
+    pub found-planes : planesBy 0 (entries t (toOf s) w) ≡ on-side X + on-side Y + on-side Z
+    found-planes = walk-all (λ w es. (n : ℕ) → planesBy n es ≡ on-side X + on-side Y + on-side Z) (λ w at on b h n. planes-kept able on ∙ all-sides on b h) (λ w at on h es rest n. rest _) on f 0

@@ -1,9 +1,10 @@
--- What a turn adds to the voxel's number: one more or one less on each axis that is left, though the code adds modulo 2^64. Assumes nothing.
-use Prim.Native.Nat.{ℕ, zero, suc, _+_, _-_, _*_, _%_, _^_, _≤_, _<_}
+-- What a turn adds to v: a plane for each axis that is left, and one voxel more or less on it. Though the code adds modulo 2^64, nothing
+-- is lost. Assumes nothing.
+use Prim.Native.Nat.{ℕ, zero, suc, _+_, _-_, _*_, _/_, _%_, _^_, _≤_, _<_}
 use mathlib.Core.Path.{_≡_, refl, sym, ap, _∙_}
 use mathlib.Core.Bool.{Bool, true, false, cond}
 use native.Mathlib.Omega.{arith}
-use native.Mathlib.Nat.{mod-eq-of-lt, add-mod-right, add-mul, suc-mul, one-mul, mul-le-mul, mul-assoc}
+use native.Mathlib.Nat.{mod-eq-of-lt, div-eq-of-lt, add-mul-mod-self-left, add-mul-div-left, zero-add, add-mul, suc-mul, one-mul, mul-le-mul, mul-assoc}
 use Rattle.ray.specs.Length.{Side, X, Y, Z, Volume}
 use Rattle.line.proofs.Three.{each}
 use Rattle.line.proofs.Stretch.{onward, Left}
@@ -11,26 +12,37 @@ use Rattle.walk.specs.Plan.{unit}
 use Rattle.ray.proofs.Way.{Way, up, down, still}
 use Rattle.ray.proofs.Indices.{number}
 
--- what the code adds for one voxel on
+-- what the code adds for one plane
 abbrev pub Jump : Way → ℕ → ℕ → Type 0
-Jump up unit x = x ≡ unit
-Jump down unit x = x + unit ≡ 2 ^ 64
+Jump up unit x = x ≡ 2 ^ 32 + unit
+Jump down unit x = x + unit ≡ 2 ^ 32
 Jump still unit x = Unit {0}
 
-jump : (w : Way) (unit x base i : ℕ) → Jump w unit x → Left w i → base + i * unit + unit < 2 ^ 64 → (base + i * unit + x) % 2 ^ 64 ≡ base + onward w i * unit
-jump up unit x base i j l h = mod-eq-of-lt (omega arith) ∙ omega (arith, add-mul i 1 unit, one-mul unit)
-jump down unit x base zero j l h = absurd (omega arith)
-jump down unit x base (suc i) j l h =
-    let e : base + suc i * unit + x ≡ (base + i * unit) + 2 ^ 64 = omega (arith, suc-mul i unit) in
+-- a voxel's number, and planes
+abbrev pub counted : ℕ → ℕ → ℕ
+counted number planes = number + 2 ^ 32 * planes
+
+pub counted-number : (number planes : ℕ) → number < 2 ^ 32 → counted number planes % 2 ^ 32 ≡ number
+counted-number number planes h = add-mul-mod-self-left number (2 ^ 32) planes ∙ mod-eq-of-lt h
+
+pub counted-planes : (number planes : ℕ) → number < 2 ^ 32 → counted number planes / 2 ^ 32 ≡ planes
+counted-planes number planes h = add-mul-div-left number planes {y = 2 ^ 32} (omega arith) ∙ ap (λ (x : ℕ). x + planes) (div-eq-of-lt h) ∙ zero-add planes
+
+jump : (w : Way) (unit x base i k : ℕ) → Jump w unit x → Left w i → base + i * unit + unit + 2 ^ 32 * (k + 1) < 2 ^ 64
+    → (counted (base + i * unit) k + x) % 2 ^ 64 ≡ counted (base + onward w i * unit) (k + 1)
+jump up unit x base i k j l h = let e : counted (base + i * unit) k + x ≡ counted (base + (i + 1) * unit) (k + 1) = omega (arith, add-mul i 1 unit, one-mul unit) in rw e (mod-eq-of-lt (omega (arith, add-mul i 1 unit, one-mul unit)))
+jump down unit x base zero k j l h = absurd (omega arith)
+jump down unit x base (suc i) k j l h =
     let back : suc i - 1 ≡ i = omega arith in
-    rw (e, back) (add-mod-right (base + i * unit) (2 ^ 64) ∙ mod-eq-of-lt (omega (arith, suc-mul i unit)))
-jump still unit x base i j l h = absurd l
+    let e : counted (base + suc i * unit) k + x ≡ counted (base + i * unit) (k + 1) = omega (arith, suc-mul i unit) in
+    rw (e, back) (mod-eq-of-lt (omega (arith, suc-mul i unit)))
+jump still unit x base i k j l h = absurd l
 
 -- one axis' part in a turn
-hopped : (b : Bool) (w : Way) (unit x base i : ℕ) → Jump w unit x → (b ≡ true → Left w i) → base + i * unit + unit < 2 ^ 64
-    → cond b ((base + i * unit + x) % 2 ^ 64) (base + i * unit) ≡ base + cond b (onward w i) i * unit
-hopped true w unit x base i j l h = jump w unit x base i j (l refl) h
-hopped false w unit x base i j l h = refl
+hopped : (b : Bool) (w : Way) (unit x base i k : ℕ) → Jump w unit x → (b ≡ true → Left w i) → base + i * unit + unit + 2 ^ 32 * (k + 1) < 2 ^ 64
+    → cond b ((counted (base + i * unit) k + x) % 2 ^ 64) (counted (base + i * unit) k) ≡ counted (base + cond b (onward w i) i * unit) (k + cond b 1 0)
+hopped true w unit x base i k j l h = jump w unit x base i k j (l refl) h
+hopped false w unit x base i k j l h = omega arith
 
 -- the number by one axis: what the two others give, and the axis' own part
 abbrev others : Volume → (Side → ℕ) → Side → ℕ
@@ -63,20 +75,31 @@ module _ (v : Volume) (few : (o : Side) → v o .n ≤ 2 ^ 9) where
     abbrev to : Side → ℕ
     to o = cond (flag o) (onward (way o) (at o)) (at o)
 
+    abbrev one : Side → ℕ
+    one o = cond (flag o) 1 0
+
     abbrev add : Side → ℕ → ℕ
     add o n = cond (flag o) ((n + x o) % 2 ^ 64) n
 
     -- one axis from a to b, where the others stay
-    over : (o : Side) (a b : Side → ℕ) → ((s : Side) → a s < v s .n) → (flag o ≡ true → Left (way o) (a o)) → others v a o ≡ others v b o
-        → cond (flag o) (onward (way o) (a o)) (a o) ≡ b o → add o (number v a) ≡ number v b
-    over o a b h l same e =
-        ap (add o) (by-side v a o) ∙ hopped (flag o) (way o) (unit v o) (x o) (others v a o) (a o) (jumps o) l (omega (arith, by-side v a o, number-small a h, unit-small o))
-        ∙ rw (same, e) (sym (by-side v b o))
+    over : (o : Side) (a b : Side → ℕ) (k : ℕ) → k ≤ 2 ^ 12 → ((s : Side) → a s < v s .n) → (flag o ≡ true → Left (way o) (a o)) → others v a o ≡ others v b o
+        → cond (flag o) (onward (way o) (a o)) (a o) ≡ b o → add o (counted (number v a) k) ≡ counted (number v b) (k + one o)
+    over o a b k few h l same e =
+        ap (λ (n : ℕ). add o (counted n k)) (by-side v a o)
+        ∙ hopped (flag o) (way o) (unit v o) (x o) (others v a o) (a o) k (jumps o) l (omega (arith, by-side v a o, number-small a h, unit-small o))
+        ∙ rw (same, e) (ap (λ (n : ℕ). counted n (k + one o)) (sym (by-side v b o)))
 
-    pub all-over : add Z (add Y (add X (number v at))) ≡ number v to
-    all-over =
+    one-few : (o : Side) → one o ≤ 1
+    one-few o = at-most (flag o)
+      where
+        at-most : (b : Bool) → cond b 1 0 ≤ 1
+        at-most true = omega arith
+        at-most false = omega arith
+
+    pub all-over : (k : ℕ) → k ≤ 2 ^ 11 → add Z (add Y (add X (counted (number v at) k))) ≡ counted (number v to) (k + one X + one Y + one Z)
+    all-over k less =
         let x : Side → ℕ = each _ (to X) (at Y) (at Z) in
         let xy : Side → ℕ = each _ (to X) (to Y) (at Z) in
-        ap (λ (n : ℕ). add Z (add Y n)) (over X at x inside (left X) refl refl)
-        ∙ ap (add Z) (over Y x xy (each _ (inside′ X) (inside Y) (inside Z)) (left Y) refl refl)
-        ∙ over Z xy to (each _ (inside′ X) (inside′ Y) (inside Z)) (left Z) refl refl
+        ap (λ (n : ℕ). add Z (add Y n)) (over X at x k (omega arith) inside (left X) refl refl)
+        ∙ ap (add Z) (over Y x xy (k + one X) (omega (arith, one-few X)) (each _ (inside′ X) (inside Y) (inside Z)) (left Y) refl refl)
+        ∙ over Z xy to (k + one X + one Y) (omega (arith, one-few X, one-few Y)) (each _ (inside′ X) (inside′ Y) (inside Z)) (left Z) refl refl

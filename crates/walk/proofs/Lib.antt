@@ -1,5 +1,6 @@
 -- Laws of the walk.
 pub mod Turns
+pub mod Filling
 pub mod Hops
 pub mod Walking
 pub mod Found

@@ -1,9 +1,9 @@
 -- Two answers allowed by a promise are equal, and so are the lists it leaves. A promise that is one equation is a case of `once`; here stand
 -- the functions that tracing calls. Assumes nothing.
 use Prim.Native.Nat.{ℕ}
-use mathlib.Core.Path.{_≡_, sym, ap, _∙_}
-use mathlib.Core.List.{List, _++_}
-use lib.ListN.{length, take, drop, take-append-drop}
+use mathlib.Core.Path.{_≡_}
+use mathlib.Core.List.{List}
+use lib.ListN.{length}
 use Rattle.axis.proofs.Once.{once}
 use Rattle.ray.specs.Length.{Side, X, Y, Z}
 use Rattle.line.specs.declared.scene.Scene.{Scene}
@@ -13,23 +13,16 @@ use Rattle.walk.specs.declared.steps.Walk.{Walk}
 use Rattle.walk.specs.declared.steps.Strides.{Strides}
 use Rattle.walk.specs.declared.plan.Frame.{Frame}
 use Rattle.walk.specs.declared.plan.Plan.{Plan}
-use Rattle.walk.specs.Model.{leaveOf, jumpOf, Entry, entries, Filled}
-use Rattle.walk.specs.Plan.{restOf, Framed, unit, Strided, Begun, Planned}
+use Rattle.walk.specs.declared.entries.Tally.{Tally}
+use Rattle.walk.specs.Model.{leaveOf, jumpOf, Entry, entries, tallyOf, Filled}
+use Rattle.walk.specs.Plan.{restOf, Framed, unit, Strided, Begun}
 
 pub count-once : (begin : Walk) (s : Strides) (to r r′ : ℕ) → r ≡ length (entries s to begin) → r′ ≡ length (entries s to begin) → r ≡ r′
 count-once begin s to r r′ = once
 
--- a list by its first n places and the rest
-by-parts : {A : Type 0} (n : ℕ) (xs ys : List A) → take n xs ≡ take n ys → drop n xs ≡ drop n ys → xs ≡ ys
-by-parts n xs ys t d = sym (take-append-drop n xs) ∙ ap (λ l. l ++ drop n xs) t ∙ ap (λ l. take n ys ++ l) d ∙ take-append-drop n ys
-
-pub fill-once : (es : List Entry) (voxels parts : List ℕ) (r r′ : ℕ) (vs vs′ ps ps′ : List ℕ)
-    → Filled es r vs ps voxels parts → Filled es r′ vs′ ps′ voxels parts → (r ≡ r′) × ((vs ≡ vs′) × (ps ≡ ps′))
-fill-once es voxels parts r r′ vs vs′ ps ps′ x y =
-    let same : r ≡ r′ = once (x .number) (y .number) in
-    let y′ : Filled es r vs′ ps′ voxels parts = rw same y in
-    let same-voxels : vs ≡ vs′ = by-parts r vs vs′ (once (x .voxels-are) (y′ .voxels-are)) (once (x .voxels-rest) (y′ .voxels-rest)) in
-    (same, (same-voxels, by-parts r ps ps′ (once (x .parts-are) (y′ .parts-are)) (once (x .parts-rest) (y′ .parts-rest))))
+pub fill-once : (densities : List ℕ) (es : List Entry) (voxels parts : List ℕ) (t t′ : Tally) (vs vs′ ps ps′ : List ℕ)
+    → t ≡ tallyOf densities es → Filled es vs ps voxels parts → t′ ≡ tallyOf densities es → Filled es vs′ ps′ voxels parts → (t ≡ t′) × ((vs ≡ vs′) × (ps ≡ ps′))
+fill-once densities es voxels parts t t′ vs vs′ ps ps′ x f y g = (once x y, (once (f .voxels-now) (g .voxels-now), once (f .parts-now) (g .parts-now)))
 
 pub frame-once : (s : Scene) (f f′ : Frame) → Framed s f → Framed s f′ → f ≡ f′
 frame-once s f f′ x y = λ i. record {
@@ -67,10 +60,8 @@ module _ (s : Scene) (able : Able s) (f : Frame) where
         t = once (x .tick) (y .tick) i;
       }
 
-  pub plan-once : (p p′ : Plan) → Planned s (f .to) p → Begun s f (p .walk) × Strided s f (p .strides)
-      → Planned s (f .to) p′ → Begun s f (p′ .walk) × Strided s f (p′ .strides) → p ≡ p′
-  plan-once p p′ e x e′ y = λ i. record {
+  pub plan-once : (p p′ : Plan) → Begun s f (p .walk) × Strided s f (p .strides) → Begun s f (p′ .walk) × Strided s f (p′ .strides) → p ≡ p′
+  plan-once p p′ x y = λ i. record {
     walk = walk-once (p .walk) (p′ .walk) (x .0) (y .0) i;
     strides = strides-once s f (p .strides) (p′ .strides) (x .1) (y .1) i;
-    crossed = once (e .crossed-is) (e′ .crossed-is) i;
   }

@@ -23,7 +23,6 @@ use Rattle.line.proofs.Stretch.{going, enter-whole}
 use Rattle.line.proofs.Steps.{stride}
 use Rattle.line.proofs.Rounded.{voxel-of}
 use Rattle.line.proofs.Beyond.{leave-beyond}
-use Rattle.line.proofs.Crossing.{crossed-beyond}
 use Rattle.line.proofs.Sizes.{two-sizes, three-sizes, factor-size}
 use Rattle.line.proofs.Scenes.{way, leg-is, leave, fromOf, toOf, enterIn, enterAll, leaveAll}
 use Rattle.walk.specs.declared.steps.Walk.{Walk}
@@ -33,10 +32,10 @@ use Rattle.walk.specs.declared.plan.Ahead.{Ahead}
 use Rattle.walk.specs.Model.{jumpOf, Forward}
 use Rattle.walk.specs.Plan.{restOf, Framed, unit, Strided, planeOf, Facing, Begun, Planned}
 use Rattle.walk.proofs.Hops.{Jump, unit-small}
-use Rattle.walk.proofs.Walking.{Paced, Inside, Walking, under-least, cut-le, soon-later}
-use Rattle.walk.proofs.Found.{found-list, found-parts}
+use Rattle.walk.proofs.Walking.{Paced, Inside, onward-none, Walking, under-least, cut-le, soon-later}
+use Rattle.walk.proofs.Found.{found-list, found-parts, on-side, found-planes}
 
-jump-by : (w : Way) (p q u x : ℕ) → Goes w p q → (p < q → x ≡ u) → (q ≤ p → x + u ≡ 2 ^ 64) → Jump w u x
+jump-by : (w : Way) (p q u x : ℕ) → Goes w p q → (p < q → x ≡ 2 ^ 32 + u) → (q ≤ p → x + u ≡ 2 ^ 32) → Jump w u x
 jump-by up p q u x g a b = a g
 jump-by down p q u x g a b = b (le-of-lt g)
 jump-by still p q u x g a b = tt
@@ -95,12 +94,9 @@ module _ {s : Scene} (able : Able s) where
         until = lt-of-lt-of-le (under-least (dOf (rayOf s)) t _ (rw (framed .to-is) at b)) (least-le (leaveAll s) o);
       })
 
-      -- what `ahead` and `index` ask at the first tick, and `ahead` at the last
+      -- what `ahead` and `index` ask at the first tick
       pub at-first : (o : Side) → Sized (line s o) × (restOf f o ≤ 2 ^ 40) × Window (line s o) (restOf f o) (f .from)
       at-first o = (able .sized o, few o, windows o (f .from) (omega arith) proper)
-
-      pub at-last : (o : Side) → Sized (line s o) × (restOf f o ≤ 2 ^ 40) × Window (line s o) (restOf f o) (f .to - 1)
-      at-last o = let h = proper in (able .sized o, few o, windows o (f .to - 1) (omega arith) (omega arith))
 
       module _ {a : Ahead} (facing : Facing s f a) where
         -- what `leave_tick` asks of the plane ahead
@@ -126,18 +122,6 @@ module _ {s : Scene} (able : Able s) where
                 clear = λ i v. omega (arith, soonest o, left-is o v);
               }
 
-      -- the planes from those ahead of the first tick to those ahead of the last are those crossed
-      pub crossed-is : {a : Ahead} → Facing s f a → (last n : Side → ℕ) → ((o : Side) → First (line s o) (restOf f o) (f .to - 1) (last o))
-          → ((o : Side) → n o ≡ (planeOf a o - last o) + (last o - planeOf a o)) → n X + n Y + n Z ≡ crossedOf (volumeOf s) (rayOf s)
-      crossed-is {a} facing last n lasts apart = crossed-all n framed hit (λ o. apart o ∙ between o)
-        where
-          between : (o : Side) → (planeOf a o - last o) + (last o - planeOf a o) ≡ crossedOn (line s o) (restOf f o) (f .from) (f .to)
-          between o =
-              let i = voxel-of (line s o) (restOf f o) (f .from) (at-first o .2) (able .sized o) in
-              let j = voxel-of (line s o) (restOf f o) (f .to - 1) (at-last o .2) (able .sized o) in
-              rw (facing .first o .ahead (i .0) (i .1), lasts o .ahead (j .0) (j .1))
-              (crossed-beyond (line s o) (restOf f o) (able .sized o) (f .from) (f .to) (i .0) (j .0) (i .1) (j .1) proper)
-
       module _ {w : Walk} (begun : Begun s f w) where
         abbrev at : Side → ℕ
         at = begun .at
@@ -151,7 +135,10 @@ module _ {s : Scene} (able : Able s) where
           leaves = λ o. rw (← framed .rests o) (begun .leaves-at o);
           newest = le-antisymm (most-le (enterIn s at) (w .t) (λ o. inside o .since))
               (le-trans (le-of-eq (begun .tick ∙ framed .from-is)) (most-mono (enterAll s) _ (λ o. enter-whole (line s o) (rest (rayOf s) o) (at o) (begun .within o .inside))));
-          numbers = begun .number;
+          first = at;
+          began = λ o. carried (framed .rests o) (sym (framed .from-is)) (begun .within o);
+          come = λ o. onward-none (way s o) (at o);
+          numbers = begun .number ∙ omega arith;
         }
 
         module _ {t : Strides} (strided : Strided s f t) where
@@ -171,13 +158,13 @@ module _ {s : Scene} (able : Able s) where
             before = lt-of-le-of-lt (le-of-eq (begun .tick)) proper;
           }
 
-          pub planned : (crossed : ℕ) → crossed ≡ crossedOf (volumeOf s) (rayOf s) → Planned s (f .to) (record { walk = w; strides = t; crossed = crossed })
-          planned crossed e =
+          pub planned : Planned s (f .to) (record { walk = w; strides = t })
+          planned =
               let f′ : Forward t (toOf s) w = rw (framed .to-is) at forward in
               let vs = found-list able paced walking f′ (begun .tick ∙ framed .from-is) in
               record {
                 forward = forward;
                 voxels-are = rw (framed .to-is) vs;
                 parts-are = rw (framed .to-is) (found-parts able paced walking f′ ∙ ap (map (partOf (volumeOf s) (rayOf s))) vs);
-                crossed-is = e;
+                crossed-is = rw (framed .to-is) (found-planes able paced walking f′) ∙ crossed-all (on-side able paced) framed hit (λ o. rw (framed .rests o, framed .from-is, framed .to-is) refl);
               }

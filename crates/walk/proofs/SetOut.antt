@@ -48,9 +48,9 @@ frame s = record {
 framed : (s : Scene) → Framed s (frame s)
 framed s = record { rests = each _ refl refl refl; denominator-is = refl; from-is = refl; to-is = refl; hit-is = refl }
 
--- one voxel on, or one back
+-- a plane, and one voxel on, or one back
 abbrev jump : Scene → Side → ℕ
-jump s o = cond (ltb (line s o .p) (line s o .q)) (unit (volumeOf s) o) (2 ^ 64 - unit (volumeOf s) o)
+jump s o = cond (ltb (line s o .p) (line s o .q)) (2 ^ 32 + unit (volumeOf s) o) (2 ^ 32 - unit (volumeOf s) o)
 
 module _ {s : Scene} (able : Able s) where
   abbrev strides : Strides
@@ -63,10 +63,10 @@ module _ {s : Scene} (able : Able s) where
     vz = jump s Z;
   }
 
-  on-up : (o : Side) → line s o .p < line s o .q → jump s o ≡ unit (volumeOf s) o
+  on-up : (o : Side) → line s o .p < line s o .q → jump s o ≡ 2 ^ 32 + unit (volumeOf s) o
   on-up o k = rw (lt-ltb (line s o .p) (line s o .q) k) refl
 
-  on-down : (o : Side) → line s o .q ≤ line s o .p → jump s o + unit (volumeOf s) o ≡ 2 ^ 64
+  on-down : (o : Side) → line s o .q ≤ line s o .p → jump s o + unit (volumeOf s) o ≡ 2 ^ 32
   on-down o k = rw (le-ltb (line s o .p) (line s o .q) k) (omega (arith, unit-few able o))
 
   pacing : Strided s (frame s) strides

@@ -1,20 +1,18 @@
 -- The model's entries, turn by turn, and what a loop that makes them keeps. Assumes nothing.
 use Prim.Native.Nat.{ℕ, zero, suc, _+_, _-_, _^_, _%_, _≤_, _<_}
-use mathlib.Core.Path.{_≡_, refl, sym, ap, _∙_}
+use mathlib.Core.Path.{_≡_, refl, ap, _∙_}
 use mathlib.Core.Bool.{Bool, true, false, cond}
-use mathlib.Core.List.{List, [], _∷_, _++_, append-assoc, append-nil}
+use mathlib.Core.List.{List, [], _∷_}
 use native.Mathlib.Omega.{arith}
 use native.Mathlib.Decide.{decLe, ℕ-discrete}
-use native.Mathlib.Numerals.{add-one}
 use lib.Dec.{eqb}
-use lib.ListN.{length, take, drop, set, length-set, length-map}
-use lib.Seq.{take-suc-set, drop-set-lt, drop-drop}
+use lib.ListN.{length}
 use borrow.Author.Tests.{le-leb, lt-leb, eq-eqb, ne-eqb}
 use Rattle.ray.specs.Length.{Side, X, Y, Z}
 use Rattle.line.proofs.Three.{each, least-le, lt-least}
 use Rattle.walk.specs.declared.steps.Walk.{Walk}
 use Rattle.walk.specs.declared.steps.Strides.{Strides}
-use Rattle.walk.specs.Model.{leaveOf, soonest, next, further, stepped, Entry, entry, voxels, parts, go, entries, Forward, Filled}
+use Rattle.walk.specs.Model.{leaveOf, soonest, next, further, stepped, Entry, entry, go, entries, Forward}
 
 -- whether an axis is left at u, or later
 abbrev At : Bool → ℕ → ℕ → Type 0
@@ -153,70 +151,3 @@ module _ {s : Strides} {to : ℕ} {es : List Entry} {w : Walk} {r : ℕ} (c : Co
 
   pub counted-few : r < 2 ^ 60
   counted-few = omega (arith, counted-below, c .few)
-
--- ---- one list of a loop that writes the entries' values xs: the first r of them, and the rest ys still to come
-pub record Writing (xs ys : List ℕ) (r : ℕ) (l l₀ : List ℕ) : Type 0 where
-  pub front : xs ≡ take r l ++ ys
-  pub back : drop r l ≡ drop r l₀
-  pub size : length l ≡ length l₀
-  pub room : length xs ≤ length l₀
-
-none-written : {xs l : List ℕ} → length xs ≤ length l → Writing xs xs 0 l l
-none-written h = record { front = refl; back = refl; size = refl; room = h }
-
-take-set : (l : List ℕ) (r x : ℕ) → r < length l → take (r + 1) (set l r x) ≡ take r l ++ (x ∷ [])
-take-set l r x h = rw add-one (take-suc-set l r x h)
-
-one-written : {xs ys : List ℕ} {x r : ℕ} {l l₀ : List ℕ} → Writing xs (x ∷ ys) r l l₀ → r < length l → Writing xs ys (r + 1) (set l r x) l₀
-one-written {ys = ys} {x = x} {r = r} {l = l} {l₀ = l₀} w h = record {
-  front = w .front ∙ sym (append-assoc (take r l) (x ∷ []) ys) ∙ ap (λ (z : List ℕ). z ++ ys) (sym (take-set l r x h));
-  back = drop-set-lt (r + 1) l r x (omega arith) ∙ sym (drop-drop 1 r l) ∙ ap (drop 1) (w .back) ∙ drop-drop 1 r l₀;
-  size = length-set l r x ∙ w .size;
-  room = w .room;
-}
-
-all-written : {xs : List ℕ} {r : ℕ} {l l₀ : List ℕ} → Writing xs [] r l l₀ → take r l ≡ xs
-all-written {r = r} {l = l} w = sym (w .front ∙ append-nil (take r l))
-
--- ---- both lists
-pub record Filling (s : Strides) (to : ℕ) (es : List Entry) (w : Walk) (r : ℕ) (vs ps vs₀ ps₀ : List ℕ) : Type 0 where
-  pub counting : Counting s to es w r
-  pub voxels-so : Writing (voxels es) (voxels (entries s to w)) r vs vs₀
-  pub parts-so : Writing (parts es) (parts (entries s to w)) r ps ps₀
-
-pub none-filled : {s : Strides} {to : ℕ} {w : Walk} {vs ps : List ℕ} → Forward s to w → length (entries s to w) ≤ length vs → length (entries s to w) ≤ length ps
-    → Filling s to (entries s to w) w 0 vs ps vs ps
-none-filled {s} {to} {w} f h k = record {
-  counting = none-counted f;
-  voxels-so = none-written (omega (arith, length-map (entries s to w) (λ (e : Entry). e .voxel)));
-  parts-so = none-written (omega (arith, length-map (entries s to w) (λ (e : Entry). e .part)));
-}
-
-module _ {s : Strides} {to : ℕ} {es : List Entry} {w : Walk} {r : ℕ} {vs ps vs₀ ps₀ : List ℕ} (g : Filling s to es w r vs ps vs₀ ps₀) where
-  pub index-v : r < length vs
-  index-v = omega (arith, counted-below (g .counting), length-map es (λ (e : Entry). e .voxel), g .voxels-so .room, g .voxels-so .size)
-
-  pub index-p : r < length ps
-  index-p = omega (arith, counted-below (g .counting), length-map es (λ (e : Entry). e .part), g .parts-so .room, g .parts-so .size)
-
-  pub last-filled : to ≤ soonest w → Filled es (r + 1) (set vs r (w .v % 2 ^ 32)) (set ps r (to - w .t)) vs₀ ps₀
-  last-filled h =
-      let e : entries s to w ≡ entry w to ∷ [] = entries-last (g .counting .forward) h in
-      let v = one-written {ys = []} {x = w .v % 2 ^ 32} (rw e at (g .voxels-so)) index-v in
-      let p = one-written {ys = []} {x = to - w .t} (rw e at (g .parts-so)) index-p in
-      record {
-        number = last-counted (g .counting) h;
-        voxels-are = all-written v;
-        parts-are = all-written p;
-        voxels-rest = v .back;
-        parts-rest = p .back;
-      }
-
-  pub one-filled : soonest w < to → Filling s to es (stepped s w) (r + 1) (set vs r (w .v % 2 ^ 32)) (set ps r (soonest w - w .t)) vs₀ ps₀
-  one-filled h =
-      let e : entries s to w ≡ entry w (soonest w) ∷ entries s to (stepped s w) = entries-more (g .counting .forward) h in
-      record {
-        counting = one-counted (g .counting) h;
-        voxels-so = one-written (rw e at (g .voxels-so)) index-v;
-        parts-so = one-written (rw e at (g .parts-so)) index-p;
-      }

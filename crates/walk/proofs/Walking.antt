@@ -1,13 +1,14 @@
 -- What is known of the walk at each turn: on every axis it is in a voxel of the array, since a tick not later than now and until a
 -- tick later than now, and on one axis since now. Assumes nothing.
-use Prim.Native.Nat.{ℕ, _+_, _-_, _%_, _^_, _≤_, _<_, min}
+use Prim.Native.Nat.{ℕ, _+_, _-_, _/_, _%_, _^_, _≤_, _<_, min}
 use mathlib.Core.Path.{_≡_, refl, sym, ap, subst, _∙_}
 use mathlib.Core.Bool.{Bool, true, false, cond}
 use native.Mathlib.Omega.{arith}
-use native.Mathlib.Nat.{le-antisymm, le-of-eq, le-trans, lt-of-lt-of-le, lt-of-le-of-lt, mod-eq-of-lt}
+use native.Mathlib.Nat.{le-antisymm, le-of-eq, le-trans, lt-of-lt-of-le, lt-of-le-of-lt}
 use lib.Dec.{eqb}
 use borrow.Author.Tests.{lt-leb, eq-eqb, eqb-true, eqb-false}
 use Rattle.ray.specs.Length.{Side, X, Y, Z, rest, dOf, count, index, voxel, start, stop, partOf, misses}
+use Rattle.ray.proofs.Way.{Way, up, down, still}
 use Rattle.ray.proofs.Indices.{number, index-number, number-below, index-below, index-same}
 use Rattle.line.specs.declared.scene.Scene.{Scene}
 use Rattle.line.specs.Scene.{line, Able, heldAt, Within}
@@ -18,7 +19,7 @@ use Rattle.walk.specs.declared.steps.Walk.{Walk}
 use Rattle.walk.specs.declared.steps.Strides.{Strides}
 use Rattle.walk.specs.Model.{leaveOf, stepOf, jumpOf, soonest, next, stepped}
 use Rattle.walk.specs.Plan.{unit}
-use Rattle.walk.proofs.Hops.{Jump, number-small, all-over}
+use Rattle.walk.proofs.Hops.{Jump, counted, counted-number, counted-planes, number-small, all-over}
 use Rattle.walk.proofs.Turns.{step-tick, step-leave}
 
 -- the strides are those of the scene: from a voxel to the next the leave tick grows by the stride, and the number by the jump
@@ -30,11 +31,41 @@ pub record Paced (s : Scene) (t : Strides) : Type 0 where
 abbrev pub Inside : Scene → ℕ → (Side → ℕ) → Type 0
 Inside s t at = (o : Side) → Within (line s o) (rest (ray s) o) t (at o)
 
+-- from one voxel of an axis onward to another
+abbrev Onward : Way → ℕ → ℕ → Type 0
+Onward up i j = i ≤ j
+Onward down i j = j ≤ i
+Onward still i j = i ≡ j
+
+pub onward-none : (w : Way) (i : ℕ) → Onward w i i
+onward-none up i = omega arith
+onward-none down i = omega arith
+onward-none still i = refl
+
+-- the planes between two voxels
+abbrev pub gap : (Side → ℕ) → (Side → ℕ) → Side → ℕ
+gap i j o = (i o - j o) + (j o - i o)
+
+abbrev pub between : (Side → ℕ) → (Side → ℕ) → ℕ
+between i j = gap i j X + gap i j Y + gap i j Z
+
+-- the walk has come from the voxel `first`
 pub record Walking (s : Scene) (w : Walk) (at : Side → ℕ) : Type 0 where
   pub within : Inside s (w .t) at
   pub leaves : (o : Side) → leaveOf w o ≡ leaveIn s at o
   pub newest : most (enterIn s at) ≡ w .t
-  pub numbers : w .v ≡ number (vol s) at
+  pub first : Side → ℕ
+  pub began : Inside s (fromOf s) first
+  pub come : (o : Side) → Onward (way s o) (first o) (at o)
+  pub numbers : w .v ≡ counted (number (vol s) at) (between first at)
+
+-- one voxel further there is one plane more
+onward-by : (b : Bool) (w : Way) (i j : ℕ) → (b ≡ true → Left w j) → Onward w i j
+    → let k : ℕ = cond b (onward w j) j in Onward w i k × ((i - k) + (k - i) ≡ (i - j) + (j - i) + cond b 1 0)
+onward-by false w i j l h = (h, omega arith)
+onward-by true up i j l h = (omega arith, omega arith)
+onward-by true down i j l h = let some = l refl in (omega arith, omega arith)
+onward-by true still i j l h = absurd (l refl)
 
 pub under-least : (d t l : ℕ) → t < min d l → t < l
 under-least d t l h = omega arith
@@ -130,8 +161,17 @@ module _ {s : Scene} (able : Able s) {w : Walk} {at : Side → ℕ} (on : Walkin
       index-same (vol s) m here (λ o. one-voxel (line s o) (able .sized o) (rest (ray s) o) (start (ray s) (voxel (vol s) m))
       (through s m h _ p (omega arith) (met s m p .proper) o) (until-plane _ a b o) ∙ sym (there o))
 
+  here-small : here < 2 ^ 32
+  here-small = omega (arith, number-small (vol s) (λ o. able .sized o .n-size) at inside)
+
   pub number-kept : w .v % 2 ^ 32 ≡ here
-  number-kept = rw (on .numbers) (mod-eq-of-lt (omega (arith, number-small (vol s) (λ o. able .sized o .n-size) at inside)))
+  number-kept = rw (on .numbers) (counted-number here _ here-small)
+
+  pub planes-kept : w .v / 2 ^ 32 ≡ between (on .first) at
+  planes-kept = rw (on .numbers) (counted-planes here _ here-small)
+
+  gap-few : (o : Side) → gap (on .first) at o ≤ 2 ^ 9
+  gap-few o = omega (arith, on .began o .inside, inside o, able .sized o .n-size)
 
   -- ---- a turn
   module _ {t : Strides} (paced : Paced s t) (more : soonest w < toOf s) where
@@ -186,11 +226,19 @@ module _ {s : Scene} (able : Able s) {w : Walk} {at : Side → ℕ} (on : Walkin
     kept : (o : Side) → Kept o (flag o)
     kept o = kept-by o (flag o) refl
 
-    stepped-number : stepped t w .v ≡ number (vol s) onAt
+    left-by : (o : Side) → flag o ≡ true → Left (way s o) (at o)
+    left-by o e = next-at o (eqb-true (leaveOf w o) (soonest w) e) .left
+
+    come-on : (o : Side) → Onward (way s o) (on .first o) (onAt o) × (gap (on .first) onAt o ≡ gap (on .first) at o + cond (flag o) 1 0)
+    come-on o = onward-by (flag o) (way s o) (on .first o) (at o) (left-by o) (on .come o)
+
+    stepped-number : stepped t w .v ≡ counted (number (vol s) onAt) (between (on .first) onAt)
     unfolding stepped
     stepped-number =
         rw (on .numbers)
-        (all-over (vol s) (λ o. able .sized o .n-size) (way s) at flag (jumpOf t) (paced .jumps) (λ o e. next-at o (eqb-true (leaveOf w o) (soonest w) e) .left) inside (λ o. kept o .within .inside))
+        (all-over (vol s) (λ o. able .sized o .n-size) (way s) at flag (jumpOf t) (paced .jumps) left-by inside (λ o. kept o .within .inside) (between (on .first) at)
+        (omega (arith, gap-few X, gap-few Y, gap-few Z))
+        ∙ ap (counted (number (vol s) onAt)) (omega (arith, come-on X .1, come-on Y .1, come-on Z .1)))
 
     fresh : (o : Side) → leaveOf w o ≡ soonest w → enterIn s onAt o ≡ soonest w
     fresh o e = rw (eq-eqb (leaveOf w o) (soonest w) e) (next-at o e .enters ∙ sym (on .leaves o) ∙ e)
@@ -205,5 +253,8 @@ module _ {s : Scene} (able : Able s) {w : Walk} {at : Side → ℕ} (on : Walkin
       within = λ o. rw (step-tick t w) (kept o .within);
       leaves = λ o. step-leave t w o ∙ kept o .leaves;
       newest = newest-on ∙ sym (step-tick t w);
+      first = on .first;
+      began = on .began;
+      come = λ o. come-on o .0;
       numbers = stepped-number;
     }

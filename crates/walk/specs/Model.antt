@@ -1,13 +1,14 @@
 -- The walk as a function on numbers, with nothing of the geometry: what the code does, turn by turn. Definitions only. Assumes nothing.
-use Prim.Native.Nat.{ℕ, zero, suc, _+_, _-_, _^_, _%_, _≤_, _<_, min}
+use Prim.Native.Nat.{ℕ, zero, suc, _+_, _-_, _*_, _^_, _/_, _%_, _≤_, _<_, min}
 use mathlib.Core.Bool.{cond}
-use mathlib.Core.List.{List, [], _∷_, map}
+use mathlib.Core.List.{List, [], _∷_, _++_, map}
 use mathlib.Core.Path.{_≡_}
 use lib.Dec.{eqb, leb}
-use lib.ListN.{length, take, drop}
+use lib.ListN.{length, drop, getD}
 use Rattle.ray.specs.Length.{Side, X, Y, Z}
 use Rattle.walk.specs.declared.steps.Walk.{Walk}
 use Rattle.walk.specs.declared.steps.Strides.{Strides}
+use Rattle.walk.specs.declared.entries.Tally.{Tally}
 
 -- the walk's fields by side
 abbrev pub leaveOf : Walk → Side → ℕ
@@ -51,13 +52,14 @@ stepped s w =
       t = u;
     }
 
--- what a turn lists: the voxel, and the ticks up to its end or the ray's
+-- what a turn lists: the voxel, and the ticks up to its end or the ray's; and the planes crossed before it
 pub record Entry : Type 0 where
   pub voxel : ℕ
   pub part : ℕ
+  pub planes : ℕ
 
 abbrev pub entry : Walk → ℕ → Entry
-entry w end = record { voxel = w .v % 2 ^ 32; part = end - w .t }
+entry w end = record { voxel = w .v % 2 ^ 32; part = end - w .t; planes = w .v / 2 ^ 32 }
 
 abbrev pub voxels : List Entry → List ℕ
 voxels es = map (λ (e : Entry). e .voxel) es
@@ -74,7 +76,25 @@ go (suc turns) s to w = cond (leb to (soonest w)) (entry w to ∷ []) (entry w (
 abbrev pub entries : Strides → ℕ → Walk → List Entry
 entries s to w = go (to - w .t) s to w
 
--- what keeps the sums within 64 bits and the walk going forward
+-- the planes crossed before the last of some entries, n where there is none
+abbrev pub planesBy : ℕ → List Entry → ℕ
+planesBy n [] = n
+planesBy n (e ∷ es) = planesBy (e .planes) es
+
+-- the sum of part·density, and that every voxel has a density
+abbrev pub weight : List ℕ → List Entry → ℕ
+weight densities [] = 0
+weight densities (e ∷ es) = e .part * getD densities (e .voxel) 0 + weight densities es
+
+abbrev pub Dense : List ℕ → List Entry → Type 0
+Dense densities [] = Unit {0}
+Dense densities (e ∷ es) = (e .voxel < length densities) × Dense densities es
+
+-- what is told of entries that are listed
+abbrev pub tallyOf : List ℕ → List Entry → Tally
+tallyOf densities es = record { entries = length es; crossed = planesBy 0 es; sum = weight densities es }
+
+-- what keeps the ticks within 64 bits and the walk going forward
 pub record Forward (s : Strides) (to : ℕ) (w : Walk) : Type 0 where
   pub steps-some : (o : Side) → 0 < stepOf s o
   pub steps-size : (o : Side) → stepOf s o ≤ 2 ^ 60
@@ -83,10 +103,7 @@ pub record Forward (s : Strides) (to : ℕ) (w : Walk) : Type 0 where
   pub later : w .t < soonest w
   pub before : w .t < to
 
--- the first r places of two lists hold the entries, and what stood behind them stands there still
-pub record Filled (es : List Entry) (r : ℕ) (vs ps vs₀ ps₀ : List ℕ) : Type 0 where
-  pub number : r ≡ length es
-  pub voxels-are : take r vs ≡ voxels es
-  pub parts-are : take r ps ≡ parts es
-  pub voxels-rest : drop r vs ≡ drop r vs₀
-  pub parts-rest : drop r ps ≡ drop r ps₀
+-- the entries in front of two lists, and what stood behind them stands there still
+pub record Filled (es : List Entry) (vs ps vs₀ ps₀ : List ℕ) : Type 0 where
+  pub voxels-now : vs ≡ voxels es ++ drop (length es) vs₀
+  pub parts-now : ps ≡ parts es ++ drop (length es) ps₀

@@ -12,7 +12,7 @@ use Rattle.walk.specs.declared.steps.Strides.{Strides}
 use Rattle.walk.specs.declared.plan.Frame.{Frame}
 use Rattle.walk.specs.declared.plan.Ahead.{Ahead}
 use Rattle.walk.specs.declared.plan.Plan.{Plan}
-use Rattle.walk.specs.Model.{leaveOf, stepOf, jumpOf, voxels, parts, entries, Forward}
+use Rattle.walk.specs.Model.{leaveOf, stepOf, jumpOf, voxels, parts, entries, planesBy, Forward}
 
 abbrev pub restOf : Frame → Side → ℕ
 restOf f X = f .cx
@@ -27,7 +27,7 @@ pub record Framed (s : Scene) (f : Frame) : Type 0 where
   pub to-is : f .to ≡ stop (rayOf s) (array (volumeOf s))
   pub hit-is : f .hit ≡ not (misses (volumeOf s) (rayOf s))
 
--- on each axis the ticks from plane to plane, and what one voxel on adds to the number: `unit` modulo 2^64
+-- on each axis the ticks from plane to plane, and what a plane crossed adds: a plane, and `unit` more or less for the voxel
 abbrev pub unit : Volume → Side → ℕ
 unit v X = 1
 unit v Y = v X .n
@@ -35,8 +35,8 @@ unit v Z = v Y .n * v X .n
 
 pub record Strided (s : Scene) (f : Frame) (t : Strides) : Type 0 where
   pub ticks : (o : Side) → stepOf t o ≡ line s o .d * restOf f o
-  pub upward : (o : Side) → line s o .p < line s o .q → jumpOf t o ≡ unit (volumeOf s) o
-  pub downward : (o : Side) → line s o .q ≤ line s o .p → jumpOf t o + unit (volumeOf s) o ≡ 2 ^ 64
+  pub upward : (o : Side) → line s o .p < line s o .q → jumpOf t o ≡ 2 ^ 32 + unit (volumeOf s) o
+  pub downward : (o : Side) → line s o .q ≤ line s o .p → jumpOf t o + unit (volumeOf s) o ≡ 2 ^ 32
 
 -- on each axis the first plane after αmin
 abbrev pub planeOf : Ahead → Side → ℕ
@@ -61,4 +61,4 @@ pub record Planned (s : Scene) (to : ℕ) (p : Plan) : Type 0 where
   pub forward : Forward (p .strides) to (p .walk)
   pub voxels-are : voxels (entries (p .strides) to (p .walk)) ≡ listOf (volumeOf s) (rayOf s)
   pub parts-are : parts (entries (p .strides) to (p .walk)) ≡ map (partOf (volumeOf s) (rayOf s)) (listOf (volumeOf s) (rayOf s))
-  pub crossed-is : p .crossed ≡ crossedOf (volumeOf s) (rayOf s)
+  pub crossed-is : planesBy 0 (entries (p .strides) to (p .walk)) ≡ crossedOf (volumeOf s) (rayOf s)

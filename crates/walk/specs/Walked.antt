@@ -6,24 +6,37 @@ use mathlib.Core.List.{List, _++_, map}
 use lib.Dec.{leb}
 use lib.ListN.{length, drop}
 use Rattle.ray.specs.declared.Ray.{Ray}
-use Rattle.ray.specs.Length.{Volume, dOf, squaredOf, spanOf, partOf, listOf, crossedOf}
+use Rattle.ray.specs.Length.{Volume, dOf, squaredOf, spanOf, partOf, listOf, sumOf, crossedOf}
 use Rattle.walk.specs.declared.call.Walked.{Walked}
-use Rattle.walk.specs.Model.{Entry, voxels, parts}
+use Rattle.walk.specs.declared.entries.Tally.{Tally}
+use Rattle.walk.specs.Model.{Entry, voxels, parts, tallyOf}
 
-abbrev pub walkedOf : Volume → Ray → Walked
-walkedOf v r = record { entries = length (listOf v r); crossed = crossedOf v r; span = spanOf v r; denominator = dOf r; squared = squaredOf r }
+-- one of two, by whether a list goes into so many places
+abbrev pub ifRoom : {A B : Type 0} → List A → ℕ → B → B → B
+ifRoom new room there short = cond (leb (length new) room) there short
 
--- new values in front of a list that has room for them, and else the list as it was
-abbrev pub fitted : List ℕ → List ℕ → List ℕ
-fitted new old = cond (leb (length new) (length old)) (new ++ drop (length new) old) old
+-- without room for the list nothing is walked but to count it: then no plane and no sum is told
+abbrev pub walkedOf : Volume → Ray → List ℕ → ℕ → Walked
+walkedOf v r densities room = record {
+  entries = length (listOf v r);
+  crossed = ifRoom (listOf v r) room (crossedOf v r) 0;
+  span = spanOf v r;
+  denominator = dOf r;
+  squared = squaredOf r;
+  sum = ifRoom (listOf v r) room (sumOf v r densities) 0;
+}
+
+-- new values in front of a list, where so many places are enough for them, and else the list as it was
+abbrev pub fitted : ℕ → List ℕ → List ℕ → List ℕ
+fitted room new old = ifRoom new room (new ++ drop (length new) old) old
 
 -- a ray's list and its parts, fitted into two lists
-pub record Fitted (v : Volume) (r : Ray) (vs ps vs₀ ps₀ : List ℕ) : Type 0 where
-  pub voxels-now : vs ≡ fitted (listOf v r) vs₀
-  pub parts-now : ps ≡ fitted (map (partOf v r) (listOf v r)) ps₀
+pub record Fitted (v : Volume) (r : Ray) (room : ℕ) (vs ps vs₀ ps₀ : List ℕ) : Type 0 where
+  pub voxels-now : vs ≡ fitted room (listOf v r) vs₀
+  pub parts-now : ps ≡ fitted room (map (partOf v r) (listOf v r)) ps₀
 
--- the same of the entries of a walk, and their number
-pub record Entered (es : List Entry) (n : ℕ) (vs ps vs₀ ps₀ : List ℕ) : Type 0 where
-  pub number : n ≡ length es
-  pub voxels-now : vs ≡ fitted (voxels es) vs₀
-  pub parts-now : ps ≡ fitted (parts es) ps₀
+-- the same of the entries of a walk, and what is told of them
+pub record Entered (densities : List ℕ) (es : List Entry) (room : ℕ) (t : Tally) (vs ps vs₀ ps₀ : List ℕ) : Type 0 where
+  pub tally-is : t ≡ ifRoom es room (tallyOf densities es) (record { entries = length es; crossed = 0; sum = 0 })
+  pub voxels-now : vs ≡ fitted room (voxels es) vs₀
+  pub parts-now : ps ≡ fitted room (parts es) ps₀

@@ -2,12 +2,10 @@
 ghost use mathlib.Core.Path.{_≡_};
 ghost use mathlib.Core.Bool.{true, _&&_};
 ghost use lib.Dec.{ltb};
-ghost use Rattle.ray.specs.Length.{crossedOf};
-ghost use Rattle.line.specs.Scene.{Able, volumeOf, rayOf};
+ghost use Rattle.line.specs.Scene.{Able};
 ghost use Rattle.walk.specs.Plan.{Framed, Strided, Facing, Begun, Planned};
 use crate::steps::Strides;
 use crate::steps::Walk;
-use line::extremes::apart;
 use line::extremes::least;
 use line::extremes::most;
 use line::reach::Reach;
@@ -34,7 +32,6 @@ pub struct Ahead {
 pub struct Plan {
     pub walk: Walk,
     pub strides: Strides,
-    pub crossed: u64,
 }
 
 fn hits(x: Reach, y: Reach, z: Reach, from: u64, to: u64) -> bool
@@ -130,9 +127,9 @@ fn walk_of(s: Scene, f: Frame, first: Ahead) -> Walk
     let on_y = y.leave_tick(f.cy, first.y);
     let on_z = z.leave_tick(f.cz, first.z);
     let next = least(f.to, least(on_x, least(on_y, on_z)));
-    let i = x.index(f.cx, from, next);
-    let j = y.index(f.cy, from, next);
-    let k = z.index(f.cz, from, next);
+    let i = x.index(f.cx, from, next, first.x);
+    let j = y.index(f.cy, from, next, first.y);
+    let k = z.index(f.cz, from, next, first.z);
     Walk {
         x: on_x,
         y: on_y,
@@ -140,22 +137,6 @@ fn walk_of(s: Scene, f: Frame, first: Ahead) -> Walk
         v: (k * y.n + j) * x.n + i,
         t: from,
     }
-}
-
-// The planes crossed: the three brackets of equation (9), without the planes met at αmin or αmax itself. By (6), on each axis from the
-// first plane after αmin up to, and without, the first that is not before αmax, which is the first after the tick before it.
-fn crossed_of(s: Scene, f: Frame, first: Ahead) -> u64
-    requires { ⌜ Able s × Framed s f × (f .hit ≡ true) × Facing s f first ⌝ }
-    ensures { λ r. ⌜ r ≡ crossedOf (volumeOf s) (rayOf s) ⌝ }
-{
-    let x = s.x;
-    let y = s.y;
-    let z = s.z;
-    let last = f.to - 1;
-    let on_x = apart(first.x, x.ahead(f.cx, last));
-    let on_y = apart(first.y, y.ahead(f.cy, last));
-    let on_z = apart(first.z, z.ahead(f.cz, last));
-    on_x + on_y + on_z
 }
 
 // The walk of a ray that hits.
@@ -167,10 +148,5 @@ pub fn plan_of(s: Scene, f: Frame) -> Plan
     let first = ahead_of(s, f);
     let walk = walk_of(s, f, first);
     let strides = strides_of(s, f);
-    let crossed = crossed_of(s, f, first);
-    Plan {
-        walk,
-        strides,
-        crossed,
-    }
+    Plan { walk, strides }
 }

@@ -5,7 +5,8 @@ ghost use Prim.Native.Nat.{_+_, _%_, _^_, _<_};
 ghost use Rattle.walk.specs.Model.{stepped};
 use std::num::wrapping_add_u64;
 
-// The voxel v that the walk is in since the tick t, and the ticks at which it leaves it on each axis.
+// Where the walk is since the tick t, and the ticks at which it leaves its voxel on each axis. v is the voxel's number, and 2^32 for
+// each plane crossed since the walk began: the brackets of equation (9), without the planes met at αmin or αmax itself.
 pub struct Walk {
     pub x: u64,
     pub y: u64,
@@ -14,7 +15,7 @@ pub struct Walk {
     pub t: u64,
 }
 
-// On each axis the ticks from plane to plane, and what the next voxel adds to the number, modulo 2^64.
+// On each axis the ticks from plane to plane, and what a plane crossed adds to v.
 pub struct Strides {
     pub dx: u64,
     pub dy: u64,

@@ -2,7 +2,9 @@ use mathlib.Core.Path.{_≡_, refl, sym, _∙_}
 use mathlib.Core.Logic.{⊎-elim}
 use native.Mathlib.Omega.{arith}
 use Rattle.tracing.specs.Answer.{lists, lent}
-use Rattle.tracing.proofs.Accepting.{code-free}
+use Prim.Native.Nat.{_<_}
+use lib.ListN.{length}
+use Rattle.tracing.proofs.Accepting.{stopped, accepted, no-room}
 use Rattle.tracing.proofs.Answering.{refuses}
 use Rattle.tracing.proofs.Appending.{tail-answers}
 use borrow.Author.Needs.{needs}
@@ -49,21 +51,30 @@ returns c =
     tail-answers (a .m) (a .g) (a .r) (a .densities .now) (a .voxels .now) (a .parts .now) (a .filled) (k .before .if1 .taken) (k .if2 .taken)
     (c .before .before .before .before .trace .ensures)
 
-code-of-requires : tie.Need-code-of-requires
-code-of-requires c κs = search needs
+front-code-requires : tie.Need-front-code-requires
+front-code-requires c κs = search needs
 
 refusal-requires : tie.Need-refusal-requires
 refusal-requires c κs = search needs
 
 returns-2 : tie.Need-returns-2
 returns-2 c =
-    let a = c .before .before .before .before .before .before .args in
+    let a = c .before .before .before .before .before .before .before .args in
+    let l = lists (a .densities .now) (a .voxels .now) (a .parts .now) (a .filled) in
+    let e = c .before .before .front-code .ensures in
+    refuses (a .m) (a .g) (a .r) l _ (stopped (a .m) (a .g) (a .r) (lent l) e (c .before .if3 .taken)) (c .before .if3 .taken) (c .refusal .ensures) refl refl
+
+refusal-requires-2 : tie.Need-refusal-requires-2
+refusal-requires-2 c κs = search needs
+
+returns-3 : tie.Need-returns-3
+returns-3 c =
+    let a = c .before .before .before .before .before .before .before .args in
     let l = lent (lists (a .densities .now) (a .voxels .now) (a .parts .now) (a .filled)) in
-    let k = c .before .code-of .ensures in
-    let none : c .before .code-of .result ≡ 0 → ⊥ = λ z.
-    let f = code-free (a .m) (a .g) (a .r) l (sym k ∙ z) in
-    ⊎-elim (λ w. omega (arith, f .room)) (λ w. omega (arith, f .room, f .accepted .lists-are)) (c .before .before .if1 .came) in
-    refuses (a .m) (a .g) (a .r) _ _ k none (c .refusal .ensures) refl refl
+    let front = sym (c .before .before .front-code .ensures) ∙ c .before .if3 .left in
+    let same = accepted (a .m) (a .g) (a .r) l front .lists-are in
+    let beyond : length (a .voxels .now) < a .filled = ⊎-elim (λ w. omega (arith, w .1 .left)) (λ w. omega (arith, w .left)) (c .before .before .before .if1 .came) in
+    refuses (a .m) (a .g) (a .r) _ _ (no-room (a .m) (a .g) (a .r) l front (omega arith)) (λ z. omega arith) (c .refusal2 .ensures) refl refl
 
 pub append-spec : {M : Type 1} → statement M
 append-spec =
@@ -81,6 +92,8 @@ append-spec =
     same-length
     same-length-2
     returns
-    code-of-requires
+    front-code-requires
     refusal-requires
-    returns-2)
+    returns-2
+    refusal-requires-2
+    returns-3)

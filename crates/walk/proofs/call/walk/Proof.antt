@@ -1,20 +1,25 @@
 use mathlib.Core.Path.{_≡_}
 use mathlib.Core.Bool.{true}
+use native.Mathlib.Omega.{arith}
+use Rattle.ray.specs.Length.{X, Y, Z}
 use Rattle.line.specs.declared.scene.Scene.{Scene}
 use Rattle.line.specs.Scene.{Able}
 use Rattle.walk.specs.declared.plan.Frame.{Frame}
 use Rattle.walk.specs.Plan.{Framed, Planned}
-use Rattle.walk.proofs.Called.{few, from-to, hit-walked, miss-walked}
+use Rattle.walk.proofs.Called.{few, dense, until-few, from-to, hit-walked, miss-walked}
 use borrow.Author.Needs.{needs}
 use Rattle.walk.proofs.call.walk.Statement.{statement}
 use Rattle.walk.proofs.call.walk.Tie as tie
 
 module _ (c : tie.After-plan-of) where
+  abbrev start : tie.Start
+  start = c .before .before .before .before .before .before .before
+
   abbrev s : Scene
-  s = c .before .before .before .before .before .before .args .s
+  s = start .args .s
 
   able : Able s
-  able = c .before .before .before .before .before .before .pre .0
+  able = start .pre .0 .0
 
   abbrev f : Frame
   f = c .before .before .before .frame-of .result
@@ -37,13 +42,25 @@ squared-of-requires c κs = search needs
 plan-of-requires : tie.Need-plan-of-requires
 plan-of-requires c κs = search needs
 
+add-most : tie.Need-add-most
+add-most c = let a = able (c .before) in record { fits = omega (arith, a .sized X .n-size, a .sized Y .n-size) }
+
+add-most-2 : tie.Need-add-most-2
+add-most-2 c = let a = able (c .before .before) in record { fits = omega (arith, a .sized X .n-size, a .sized Y .n-size, a .sized Z .n-size) }
+
+sub-most : tie.Need-sub-most
+sub-most c = let a = able (c .before .before) in omega (arith, a .sized X .some, a .sized Y .some)
+
 enter-requires : tie.Need-enter-requires
 enter-requires c κs =
-    let k = c .before .before in
-    (planned k .forward, (few (able k) (framed k) (hit k) (planned k), c .before .before .before .before .before .before .before .before .pre .1))
+    let k = c .before .before .before .before in
+    let p = start k .pre in (
+      (planned k .forward, until-few (able k) (framed k) (p .0 .1)),
+      (dense (able k) (framed k) (hit k) (planned k) _ (p .1 .0), (omega (arith, few (able k) (framed k) (hit k) (planned k)), p .1 .1)),
+    )
 
 sub-span : tie.Need-sub-span
-sub-span c = let k = c .before .before .before .before .before .before .before .before in from-to (able k) (framed k) (hit k) (planned k)
+sub-span c = let k = c .before .before .before .before .before .before .before .before .before .before in from-to (able k) (framed k) (hit k) (planned k)
 
 same-length : tie.Need-same-length
 same-length c = search needs
@@ -53,11 +70,11 @@ same-length-2 c = search needs
 
 returns : tie.Need-returns
 returns c =
-    let k = c .before .before .before .before .before .before .before .before in
+    let k = c .before .before .before .before .before .before .before .before .before .before in
     hit-walked (able k) (framed k) (hit k) (planned k) _ _ (c .before .before .before .before .before .enter .ensures) (k .before .before .squared-of .ensures)
 
 returns-2 : tie.Need-returns-2
-returns-2 c = miss-walked (c .before .before .before .before .before .pre .0) (c .before .before .frame-of .ensures) (c .if1 .left) _ (c .before .squared-of .ensures)
+returns-2 c = miss-walked (c .before .before .before .before .before .before .pre .0 .0) (c .before .before .frame-of .ensures) (c .if1 .left) _ _ _ (c .before .squared-of .ensures)
 
 pub walk-spec : {M : Type 1} → statement M
 walk-spec =
@@ -66,6 +83,9 @@ walk-spec =
     frame-of-requires
     squared-of-requires
     plan-of-requires
+    add-most
+    add-most-2
+    sub-most
     enter-requires
     sub-span
     same-length

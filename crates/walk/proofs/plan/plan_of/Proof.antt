@@ -12,17 +12,14 @@ walk-of-requires c κs = search needs
 strides-of-requires : tie.Need-strides-of-requires
 strides-of-requires c κs = search needs
 
-crossed-of-requires : tie.Need-crossed-of-requires
-crossed-of-requires c κs = search needs
-
 returns : tie.Need-returns
 returns c =
-    let p = c .before .before .before .before .pre in
-    let w = c .before .before .walk-of .ensures in
-    let t = c .before .strides-of .ensures in
-    (planned (p .0) (p .1) (p .2) w t _ (c .crossed-of .ensures), (w, t))
+    let p = c .before .before .before .pre in
+    let w = c .before .walk-of .ensures in
+    let t = c .strides-of .ensures in
+    (planned (p .0) (p .1) (p .2) w t, (w, t))
 
 pub plan-of-spec : {M : Type 1} → statement M
 plan-of-spec =
     tie.close
-    (tie.spec ahead-of-requires walk-of-requires strides-of-requires crossed-of-requires returns)
+    (tie.spec ahead-of-requires walk-of-requires strides-of-requires returns)

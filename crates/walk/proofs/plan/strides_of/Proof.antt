@@ -2,7 +2,7 @@ use mathlib.Core.Path.{refl}
 use native.Mathlib.Omega.{arith}
 use Rattle.ray.specs.Length.{X, Y, Z}
 use Rattle.line.proofs.Three.{each}
-use Rattle.walk.proofs.Plans.{unit-some, unit-few, step-few}
+use Rattle.walk.proofs.Plans.{unit-few, step-few}
 use borrow.Author.Needs.{needs}
 use Rattle.walk.proofs.plan.strides_of.Statement.{statement}
 use Rattle.walk.proofs.plan.strides_of.Tie as tie
@@ -20,13 +20,13 @@ jump-requires : tie.Need-jump-requires
 jump-requires c κs = search needs
 
 jump-requires-2 : tie.Need-jump-requires-2
-jump-requires-2 c κs = unit-some (c .before .before .before .before .before .before .before .before .before .before .pre .0) Y
+jump-requires-2 c κs = omega (arith, unit-few (c .before .before .before .before .before .before .before .before .before .before .pre .0) Y)
 
 mul-jump : tie.Need-mul-jump
 mul-jump c = record { fits = omega (arith, unit-few (c .before .before .before .before .before .before .before .before .before .before .before .before .before .pre .0) Z) }
 
 jump-requires-3 : tie.Need-jump-requires-3
-jump-requires-3 c κs = unit-some (c .before .before .before .before .before .before .before .before .before .before .before .before .before .pre .0) Z
+jump-requires-3 c κs = omega (arith, unit-few (c .before .before .before .before .before .before .before .before .before .before .before .before .before .pre .0) Z)
 
 returns : tie.Need-returns
 returns c =

@@ -4,7 +4,7 @@ use native.Mathlib.Omega.{arith}
 use Rattle.ray.specs.Length.{Side, X, Y, Z}
 use Rattle.line.specs.declared.scene.Scene.{Scene}
 use Rattle.line.specs.Reach.{leftAt}
-use Rattle.line.specs.Scene.{line, volumeOf, leavesAt, Within}
+use Rattle.line.specs.Scene.{line, volumeOf, Sized, leavesAt, Window, Within}
 use Rattle.line.specs.Beyond.{Stretch}
 use Rattle.line.proofs.Three.{each}
 use Rattle.ray.proofs.Indices.{number}
@@ -41,6 +41,12 @@ module _ (c : tie.After-least3) where
 
   stretch : (o : Side) → Stretch (line s o) (restOf f o) (f .from) (c .least3 .result)
   stretch = let p = start .pre in first-stretch (p .0) (p .1) (p .2) (p .3) left met (c .least3 .result) next-is
+
+  at-index : (o : Side) → Sized (line s o) × (restOf f o ≤ 2 ^ 40) × Window (line s o) (restOf f o) (f .from) × (planeOf (start .args .first) o ≤ line s o .n)
+  at-index o =
+      let p = start .pre in
+      let k = at-first (p .0) (p .1) (p .2) o in
+      (k .0, k .1, k .2, p .3 .first o .few)
 
   leaves : (o : Side) {i : ℕ} → Within (line s o) (restOf f o) (f .from) i → left o ≡ leavesAt (line s o) (restOf f o) i (i + 1)
   leaves = let p = start .pre in left-is (p .0) (p .1) (p .2) (p .3) left met
@@ -84,13 +90,13 @@ least-requires-3 : tie.Need-least-requires-3
 least-requires-3 c κs = search needs
 
 index-requires : tie.Need-index-requires
-index-requires c κs = let p = start c .pre in (at-first (p .0) (p .1) (p .2) X, stretch c X)
+index-requires c κs = (at-index c X, stretch c X)
 
 index-requires-2 : tie.Need-index-requires-2
-index-requires-2 c κs = let p = start (c .before) .pre in (at-first (p .0) (p .1) (p .2) Y, stretch (c .before) Y)
+index-requires-2 c κs = (at-index (c .before) Y, stretch (c .before) Y)
 
 index-requires-3 : tie.Need-index-requires-3
-index-requires-3 c κs = let p = start (c .before .before) .pre in (at-first (p .0) (p .1) (p .2) Z, stretch (c .before .before) Z)
+index-requires-3 c κs = (at-index (c .before .before) Z, stretch (c .before .before) Z)
 
 mul-t15 : tie.Need-mul-t15
 mul-t15 c = record { fits = omega (arith, row (c .before)) }

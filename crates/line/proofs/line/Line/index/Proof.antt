@@ -39,13 +39,23 @@ spot-requires c κs = (
   middle-down (a c) (c .pre .0 .0) (c .args .c) (c .args .from) (c .args .next) (within c) (c .pre .1 .some) (until c),
 )
 
-mul-quotient : tie.Need-mul-quotient
-mul-quotient c = search needs
+back-requires : tie.Need-back-requires
+back-requires c κs = search needs
 
-quotient-requires : tie.Need-quotient-requires
-quotient-requires c κs =
-    let s = c .before in
-    (s .pre .0 .0, omega (arith, s .pre .0 .2 .some), omega (arith, s .pre .0 .1), rw (c .spot .ensures .0) (middle-low (a s) (s .pre .0 .0) (s .args .c) (s .args .from) (s .args .next) (within s) (s .pre .1 .some) (until s)))
+sub-past : tie.Need-sub-past
+sub-past c = search needs
+
+past-requires : tie.Need-past-requires
+past-requires c κs = search needs
+
+mul-quotient-near : tie.Need-mul-quotient-near
+mul-quotient-near c = search needs
+
+quotient-near-requires : tie.Need-quotient-near-requires
+quotient-near-requires c κs =
+    let s = c .before .before .before in
+    let low = middle-low (a s) (s .pre .0 .0) (s .args .c) (s .args .from) (s .args .next) (within s) (s .pre .1 .some) (until s) in
+    (s .pre .0 .0, omega (arith, s .pre .0 .2 .some), omega (arith, s .pre .0 .1), rw (c .before .before .spot .ensures .0) low, omega (arith, c .past .ensures, s .pre .0 .3))
 
 sub-least : tie.Need-sub-least
 sub-least c = search needs
@@ -55,8 +65,8 @@ least-requires c κs = search needs
 
 returns : tie.Need-returns
 returns c =
-    let s = c .before .before .before .before in
-    let e : c .least .result ≡ i s = c .least .ensures ∙ rw (c .before .before .quotient .ensures, c .before .before .before .spot .ensures .0) (middle-is (a s) (s .pre .0 .0) (s .args .c) (s .args .from) (s .args .next) (within s) (s .pre .1 .some) (until s)) in
+    let s = c .before .before .before .before .before .before in
+    let e : c .least .result ≡ i s = c .least .ensures ∙ rw (c .before .before .quotient-near .ensures, c .before .before .before .before .before .spot .ensures .0) (middle-is (a s) (s .pre .0 .0) (s .args .c) (s .args .from) (s .args .next) (within s) (s .pre .1 .some) (until s)) in
     rw e (within s)
 
 pub index-spec : {M : Type 1} → statement M
@@ -66,8 +76,11 @@ index-spec =
     mul-spot
     add-spot
     spot-requires
-    mul-quotient
-    quotient-requires
+    back-requires
+    sub-past
+    past-requires
+    mul-quotient-near
+    quotient-near-requires
     sub-least
     least-requires
     returns)

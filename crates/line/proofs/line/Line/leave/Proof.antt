@@ -1,5 +1,8 @@
+use Prim.Native.Nat.{_*_}
+use native.Mathlib.Omega.{arith}
 use native.Mathlib.Nat.{one-mul}
-use Rattle.line.proofs.Units.{moves, stays}
+use Rattle.ray.proofs.Way.{up, down}
+use Rattle.line.proofs.Units.{stays, leaves-is, aimed-is}
 use borrow.Author.Needs.{needs}
 use Rattle.line.proofs.line.Line.leave.Statement.{statement}
 use Rattle.line.proofs.line.Line.leave.Tie as tie
@@ -7,19 +10,24 @@ use Rattle.line.proofs.line.Line.leave.Tie as tie
 returns : tie.Need-returns
 returns c = λ rest. let a = c .before .before .args .self in rw (stays (a .p) (a .q) (c .if1 .taken)) (one-mul rest)
 
-run-requires : tie.Need-run-requires
-run-requires c κs = search needs
+either-requires : tie.Need-either-requires
+either-requires c κs = search needs
 
-run-requires-2 : tie.Need-run-requires-2
-run-requires-2 c κs = search needs
+either-requires-2 : tie.Need-either-requires-2
+either-requires-2 c κs = search needs
 
-most-requires : tie.Need-most-requires
-most-requires c κs = search needs
+past-requires : tie.Need-past-requires
+past-requires c κs = search needs
 
 returns-2 : tie.Need-returns-2
 returns-2 c = λ rest.
-    let a = c .before .before .before .before .before .args .self in
-    rw (moves (a .p) (a .q) (c .before .before .before .if1 .left), c .most .ensures, c .before .run2 .ensures, c .before .before .run .ensures)
+    let s = c .before .before .before .before .before .before in
+    let p = s .args .self .p in
+    let q = s .args .self .q in
+    let lo = s .args .lo in
+    let hi = s .args .hi in
+    rw (c .past .ensures, c .before .either2 .ensures, c .before .before .either .ensures)
+    (aimed-is p q hi lo (λ n. n * rest) (λ g. leaves-is up p q lo hi rest g (s .pre)) (λ g. leaves-is down p q lo hi rest (omega (arith, c .before .before .before .before .if1 .left)) (s .pre)))
 
 pub leave-spec : {M : Type 1} → statement M
-leave-spec = tie.close (tie.spec returns run-requires run-requires-2 most-requires returns-2)
+leave-spec = tie.close (tie.spec returns either-requires either-requires-2 past-requires returns-2)

@@ -6,11 +6,15 @@ use Rattle.axis.specs.Leg.{Slab, enters, leaves, held}
 use Rattle.line.specs.declared.line.Line.{Line}
 use Rattle.line.specs.Scene.{legN, slabN, plane, entersAt, leavesAt}
 use Rattle.line.proofs.Units.{slab-same}
-use Rattle.line.proofs.Stretch.{held-array}
+use Rattle.line.proofs.Stretch.{plane-mono, held-array}
 use Rattle.line.proofs.Sizes.{enter-ticks, leave-ticks}
 use borrow.Author.Needs.{needs}
 use Rattle.line.proofs.line.Line.reach.Statement.{statement}
 use Rattle.line.proofs.line.Line.reach.Tie as tie
+
+module _ (c : tie.After-plane2) where
+  rise : c .before .plane .result ≤ c .plane2 .result
+  rise = let a = c .before .before .args .self in omega (arith, c .before .plane .ensures, c .plane2 .ensures, plane-mono a {i = 0} {j = a .n} (omega arith))
 
 -- where the code has asked for all of it
 module _ (c : tie.After-held) where
@@ -43,10 +47,10 @@ plane-requires-2 : tie.Need-plane-requires-2
 plane-requires-2 c κs = search needs
 
 enter-requires : tie.Need-enter-requires
-enter-requires c κs = search needs
+enter-requires c κs = rise c
 
 leave-requires : tie.Need-leave-requires
-leave-requires c κs = search needs
+leave-requires c κs = rise (c .before)
 
 held-requires : tie.Need-held-requires
 held-requires c κs = search needs

@@ -1,35 +1,45 @@
-use Prim.Native.Nat.{_*_, _^_, _≤_}
-use mathlib.Core.Path.{sym}
+use Prim.Native.Nat.{ℕ, _*_, _^_, _≤_}
 use native.Mathlib.Omega.{arith}
-use Rattle.ray.proofs.Way.{up, down, still}
+use Rattle.line.specs.declared.line.Line.{Line}
 use Rattle.line.proofs.Sizes.{half-sizes}
-use Rattle.line.proofs.Stretch.{way-is}
+use Rattle.line.proofs.Stretch.{wayOf, going, Shifted, shift-is}
+use borrow.Author.Needs.{needs}
 use Rattle.line.proofs.line.Line.spot.Statement.{statement}
 use Rattle.line.proofs.line.Line.spot.Tie as tie
 
-module _ (s : tie.Start) where
-  start-few : s .args .self .p * s .args .k ≤ 2 ^ 61
-  start-few = half-sizes (s .pre .0 .0 .p-size) (s .pre .0 .1)
+either-requires : tie.Need-either-requires
+either-requires c κs = search needs
 
-mul-start : tie.Need-mul-start
-mul-start c = record { fits = omega (arith, start-few (c .before)) }
+either-requires-2 : tie.Need-either-requires-2
+either-requires-2 c κs = search needs
+
+module _ (c : tie.After-struct-known3) where
+  abbrev start : tie.Start
+  start = c .before .before .before .before .before
+
+  abbrev a : Line
+  a = start .args .self
+
+  abbrev x : ℕ
+  x = a .p * start .args .k
+
+  few : x ≤ 2 ^ 61
+  few = half-sizes (start .pre .0 .0 .p-size) (start .pre .0 .1)
+
+  shifted : Shifted a x (start .args .t) (c .before .before .before .either .result) (c .before .either2 .result)
+  shifted = shift-is a (wayOf a) (going a) x (start .args .t) (start .pre .1) (c .before .before .before .either .ensures) (c .before .either2 .ensures)
+
+mul-result : tie.Need-mul-result
+mul-result c = record { fits = omega (arith, few c) }
 
 add-result : tie.Need-add-result
-add-result c = let s = c .before .before .before in record { fits = omega (arith, start-few s, s .pre .0 .2) }
-
-returns : tie.Need-returns
-returns c = let s = c .before .before .before in (sym (way-is (s .args .self) up (c .if1 .taken) _ _ _), omega (arith, start-few s, s .pre .0 .2))
+add-result c = record { fits = omega (arith, few c, shifted c .0, start c .pre .0 .2) }
 
 sub-result : tie.Need-sub-result
-sub-result c = c .before .before .before .before .before .pre .1 (c .if2 .taken)
+sub-result c = shifted c .1
 
-returns-2 : tie.Need-returns-2
-returns-2 c = let s = c .before .before .before .before .before in (sym (way-is (s .args .self) down (c .if2 .taken) _ _ _), omega (arith, start-few s))
-
-returns-3 : tie.Need-returns-3
-returns-3 c =
-    let s = c .before .before .before .before .before in
-    (sym (way-is (s .args .self) still (omega (arith, c .if2 .left, c .before .before .if1 .left)) _ _ _), omega (arith, start-few s))
+returns : tie.Need-returns
+returns c = (shifted c .2, omega (arith, few c, shifted c .0, start c .pre .0 .2))
 
 pub spot-spec : {M : Type 1} → statement M
-spot-spec = tie.close (tie.spec mul-start add-result returns sub-result returns-2 returns-3)
+spot-spec = tie.close (tie.spec either-requires either-requires-2 mul-result add-result sub-result returns)
