@@ -5,7 +5,6 @@ ghost use lib.ListN.{length};
 ghost use Rattle.walk.specs.Model.{Forward, entries, Dense, tallyOf, Filled};
 use crate::steps::Strides;
 use crate::steps::Walk;
-use line::extremes::least;
 
 // What is told of the entries: how many, the planes crossed before the last of them, and the sum of part times density.
 pub struct Tally {
@@ -55,19 +54,21 @@ pub fn fill(
         let next = w.step(s);
         let voxel = w.v % 4294967296;
         let density = densities[voxel as usize] as u64;
-        let part = least(to, next.t) - w.t;
         voxels[r] = voxel as u32;
+        if to <= next.t {
+            let part = to - w.t;
+            let crossed = w.v / 4294967296;
+            parts[r] = part;
+            return Tally {
+                entries: r + 1,
+                crossed,
+                sum: sum + part * density,
+            };
+        }
+        let part = next.t - w.t;
         parts[r] = part;
         sum += part * density;
         r += 1;
-        if to <= next.t {
-            let crossed = w.v / 4294967296;
-            return Tally {
-                entries: r,
-                crossed,
-                sum,
-            };
-        }
         w = next;
     }
 }
