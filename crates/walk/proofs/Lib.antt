@@ -11,4 +11,5 @@ pub mod SetOut
 pub mod Alphas
 pub mod Counts
 pub mod Once
+pub mod Ordering
 pub mod Called

@@ -2,3 +2,4 @@
 pub mod Model
 pub mod Plan
 pub mod Walked
+pub mod Order

@@ -9,6 +9,7 @@ ghost use Rattle.walk.specs.Walked.{walkedOf, Fitted, Entered};
 use crate::entries::Tally;
 use crate::entries::count;
 use crate::entries::fill;
+use crate::order::ordered;
 use crate::plan::Plan;
 use crate::plan::frame_of;
 use crate::plan::plan_of;
@@ -74,7 +75,7 @@ pub fn walk(
     let squared = squared_of(s);
     let denominator = f.denominator;
     if f.hit {
-        let p = plan_of(s, f);
+        let p = ordered(plan_of(s, f));
         let most = (s.x.n + s.y.n + s.z.n - 2) as usize;
         let t = enter(p, f.to, most, room, densities, voxels, parts);
         let span = f.to - f.from;

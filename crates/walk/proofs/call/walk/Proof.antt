@@ -7,13 +7,14 @@ use Rattle.line.specs.Scene.{Able}
 use Rattle.walk.specs.declared.plan.Frame.{Frame}
 use Rattle.walk.specs.Plan.{Framed, Planned}
 use Rattle.walk.proofs.Called.{few, dense, until-few, from-to, hit-walked, miss-walked}
+use Rattle.walk.proofs.Ordering.{ordered-plan}
 use borrow.Author.Needs.{needs}
 use Rattle.walk.proofs.call.walk.Statement.{statement}
 use Rattle.walk.proofs.call.walk.Tie as tie
 
-module _ (c : tie.After-plan-of) where
+module _ (c : tie.After-ordered) where
   abbrev start : tie.Start
-  start = c .before .before .before .before .before .before .before
+  start = c .before .before .before .before .before .before .before .before
 
   abbrev s : Scene
   s = start .args .s
@@ -22,16 +23,16 @@ module _ (c : tie.After-plan-of) where
   able = start .pre .0 .0
 
   abbrev f : Frame
-  f = c .before .before .before .frame-of .result
+  f = c .before .before .before .before .frame-of .result
 
   framed : Framed s f
-  framed = c .before .before .before .frame-of .ensures
+  framed = c .before .before .before .before .frame-of .ensures
 
   hit : f .hit ≡ true
-  hit = c .before .if1 .taken
+  hit = c .before .before .if1 .taken
 
-  planned : Planned s (f .to) (c .plan-of .result)
-  planned = c .plan-of .ensures .0
+  planned : Planned s (f .to) (c .ordered .result)
+  planned = ordered-plan (c .ordered .ensures) (c .before .plan-of .ensures .0)
 
 frame-of-requires : tie.Need-frame-of-requires
 frame-of-requires c κs = search needs
@@ -41,6 +42,9 @@ squared-of-requires c κs = search needs
 
 plan-of-requires : tie.Need-plan-of-requires
 plan-of-requires c κs = search needs
+
+ordered-requires : tie.Need-ordered-requires
+ordered-requires c κs = search needs
 
 add-most : tie.Need-add-most
 add-most c = let a = able (c .before) in record { fits = omega (arith, a .sized X .n-size, a .sized Y .n-size) }
@@ -71,7 +75,7 @@ same-length-2 c = search needs
 returns : tie.Need-returns
 returns c =
     let k = c .before .before .before .before .before .before .before .before .before .before in
-    hit-walked (able k) (framed k) (hit k) (planned k) _ _ (c .before .before .before .before .before .enter .ensures) (k .before .before .squared-of .ensures)
+    hit-walked (able k) (framed k) (hit k) (planned k) _ _ (c .before .before .before .before .before .enter .ensures) (k .before .before .before .squared-of .ensures)
 
 returns-2 : tie.Need-returns-2
 returns-2 c = miss-walked (c .before .before .before .before .before .before .pre .0 .0) (c .before .before .frame-of .ensures) (c .if1 .left) _ _ _ (c .before .squared-of .ensures)
@@ -83,6 +87,7 @@ walk-spec =
     frame-of-requires
     squared-of-requires
     plan-of-requires
+    ordered-requires
     add-most
     add-most-2
     sub-most
