@@ -13,23 +13,34 @@ extern "C" {
     ) -> u32;
 }
 
+/// The places of the answer list that are read here: ILVORESTA_ENTRIES, _D and _SUM of the header.
+const ENTRIES: usize = 0;
+const D: usize = 3;
+const SUM: usize = 5;
+
 pub struct Proved {
+    grid: Grid,
     voxels: Vec<u32>,
     parts: Vec<u64>,
+    answer: [u64; 6],
 }
 
 impl Proved {
-    pub fn new(grid: &Grid) -> Proved {
-        let most = grid.n.iter().sum::<u32>() as usize - 2;
-        Proved { voxels: vec![0; most], parts: vec![0; most] }
+    /// The numbers of the voxels of the ray traced last.
+    pub fn voxels(&self) -> &[u32] {
+        &self.voxels[..self.answer[ENTRIES] as usize]
     }
 }
 
 impl Method for Proved {
-    fn trace(&mut self, grid: &Grid, ray: &Ray, densities: &[u16]) -> f64 {
-        let ([nx, ny, nz], [dx, dy, dz], [bx, by, bz]) = (grid.n, grid.d.map(|d| d as u32), grid.b);
+    fn new(grid: &Grid) -> Proved {
+        let most = grid.n.iter().sum::<u32>() as usize - 2;
+        Proved { grid: *grid, voxels: vec![0; most], parts: vec![0; most], answer: [0; 6] }
+    }
+
+    fn trace(&mut self, ray: &Ray, densities: &[u16]) -> f64 {
+        let ([nx, ny, nz], [dx, dy, dz], [bx, by, bz]) = (self.grid.n, self.grid.d.map(|d| d as u32), self.grid.b);
         let ([px, py, pz], [qx, qy, qz]) = (ray.p, ray.q);
-        let mut answer = [0_u64; 6];
         // SAFETY: every list is valid for its own length, and none overlaps another.
         #[rustfmt::skip]
         let code = unsafe {
@@ -38,10 +49,15 @@ impl Method for Proved {
                 densities.as_ptr(), densities.len(),
                 self.voxels.as_mut_ptr(), self.voxels.len(),
                 self.parts.as_mut_ptr(), self.parts.len(),
-                answer.as_mut_ptr(), answer.len(),
+                self.answer.as_mut_ptr(), self.answer.len(),
             )
         };
         assert_eq!(code, 0, "a ray of the benchmark is refused");
-        answer[5] as f64 / answer[3] as f64
+        self.answer[SUM] as f64 / self.answer[D] as f64
+    }
+
+    fn entries(&self) -> Vec<(u32, f64)> {
+        let fraction = |part: &u64| *part as f64 / self.answer[D] as f64;
+        self.voxels().iter().zip(&self.parts).map(|(voxel, part)| (*voxel, fraction(part))).collect()
     }
 }

@@ -1,10 +1,25 @@
-//! The array and the ray as the float methods take them, and what both begin with.
+//! What is traced, and what a way to trace it is. The unit is 0.1 mm.
+
+/// Half the side of every array here, which lies about the origin. All ends of rays stay within 16384, the limit of the proved code.
+pub const FACE: i32 = 12_800;
 
 /// An array of voxels: counts, spacings and first planes.
+#[derive(Clone, Copy)]
 pub struct Grid {
     pub n: [u32; 3],
     pub d: [i32; 3],
     pub b: [i32; 3],
+}
+
+impl Grid {
+    /// n voxels each way; n divides the side.
+    pub fn cube(n: u32) -> Grid {
+        Grid { n: [n; 3], d: [2 * FACE / n as i32; 3], b: [-FACE; 3] }
+    }
+
+    pub fn voxels(&self) -> u32 {
+        self.n[0] * self.n[1] * self.n[2]
+    }
 }
 
 pub struct Ray {
@@ -12,49 +27,13 @@ pub struct Ray {
     pub q: [i32; 3],
 }
 
-/// A way to trace a ray: it fills lists of its own, and answers the sum of length times density in units of the ray's length.
+/// A way to trace rays through one grid, with lists of its own that are made once.
 pub trait Method {
-    fn trace(&mut self, grid: &Grid, ray: &Ray, densities: &[u16]) -> f64;
-}
+    fn new(grid: &Grid) -> Self;
 
-/// One axis in floats.
-#[derive(Clone, Copy)]
-pub struct Leg {
-    pub n: f64,
-    pub d: f64,
-    /// 1 over d: a product is faster than the division of equation (12).
-    pub inverse: f64,
-    pub b: f64,
-    pub p: f64,
-    pub step: f64,
-}
+    /// Fills the lists, and answers the sum of length times density in units of the ray's length.
+    fn trace(&mut self, ray: &Ray, densities: &[u16]) -> f64;
 
-impl Leg {
-    pub fn alpha(&self, plane: f64) -> f64 {
-        (self.b + plane * self.d - self.p) / self.step
-    }
-
-    /// How many voxels the ray is past the first plane at an α.
-    pub fn past(&self, alpha: f64) -> f64 {
-        (self.p + alpha * self.step - self.b) * self.inverse
-    }
-}
-
-pub fn legs(grid: &Grid, ray: &Ray) -> [Leg; 3] {
-    [0, 1, 2].map(|a| Leg {
-        n: f64::from(grid.n[a]),
-        d: f64::from(grid.d[a]),
-        inverse: 1.0 / f64::from(grid.d[a]),
-        b: f64::from(grid.b[a]),
-        p: f64::from(ray.p[a]),
-        step: f64::from(ray.q[a] - ray.p[a]),
-    })
-}
-
-/// αmin and αmax by equations (4) and (5) of Siddon's paper. Every axis moves in what is timed here.
-pub fn window(legs: &[Leg; 3]) -> (f64, f64) {
-    legs.iter().fold((0.0, 1.0), |(enter, leave), leg| {
-        let (one, other) = (leg.alpha(0.0), leg.alpha(leg.n));
-        (enter.max(one.min(other)), leave.min(one.max(other)))
-    })
+    /// The lists of the ray traced last: each voxel's number, and its length as a fraction of the ray's.
+    fn entries(&self) -> Vec<(u32, f64)>;
 }

@@ -7,15 +7,12 @@ use native.Mathlib.Omega.{arith}
 use native.Mathlib.Decide.{ℕ-discrete}
 use borrow.Author.Tests.{eq-eqb, ne-eqb}
 use Rattle.axis.specs.declared.Limits.{Limits}
-use Rattle.axis.specs.Codes.{first}
-use Rattle.axis.proofs.Table.{then-stop}
 use Rattle.ray.specs.declared.Grid.{Grid}
 use Rattle.ray.specs.declared.Ray.{Ray}
 use Rattle.ray.specs.Length.{volume, partOf}
-use Rattle.ray.specs.Codes.{frontRows}
 use Rattle.tracing.specs.declared.Trace.{Trace}
 use Rattle.tracing.specs.Answer.{lists, lent, refused}
-use Rattle.tracing.proofs.Accepting.{at-ends, front-then}
+use Rattle.tracing.proofs.Accepting.{at-ends, stopped}
 use Rattle.tracing.proofs.OneCall as one
 use Rattle.tracing.proofs.Room.{within-sizes, enough}
 use Rattle.load.proofs.Taking.{sides}
@@ -41,8 +38,7 @@ module _ {m : Limits} {g : Grid} {r : Ray} {densities vs ps vs′ ps′ : List �
         enough (ok .suited .small) t (record { grid = ok .accepted; ends = e; densities-are = ok .whole; lists-are = lv ∙ sym lp }) (omega (arith, few-sizes)) ∙ sym e
     | no e ↦
         let l = lent (lists densities vs ps 0) in
-        let f = at-ends m g r l (ok .accepted) (ok .whole) (rayCode m r) refl e in
-        one.code-is t ∙ front-then m g r l ∙ then-stop (first (frontRows m g r l)) _ (λ z. e (f ∙ z)) ∙ sym f
+        one.code-is t ∙ sym (stopped m g r l (at-ends m g r l (ok .accepted) (ok .whole) (rayCode m r) refl e) e)
   ]
 
   pub traced-so : Traced m g r densities a vs′ ps′
