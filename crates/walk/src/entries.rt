@@ -57,12 +57,14 @@ pub fn fill(
         voxels[r] = voxel as u32;
         if to <= next.t {
             let part = to - w.t;
-            let crossed = w.v / 4294967296;
             parts[r] = part;
+            let entries = r + 1;
+            let crossed = w.v / 4294967296;
+            let sum = sum + part * density;
             return Tally {
-                entries: r + 1,
+                entries,
                 crossed,
-                sum: sum + part * density,
+                sum,
             };
         }
         let part = next.t - w.t;

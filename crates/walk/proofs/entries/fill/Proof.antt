@@ -64,19 +64,19 @@ sub-part : tie.Need-sub-part Inv-loop μ-loop
 sub-part c = let f = c .before .before .before .before .before .before .loop .inv .forward in omega (arith, f .before)
 
 mul-parts : tie.Need-mul-parts Inv-loop μ-loop
-mul-parts c = record { fits = omega (arith, counted-few (c .before .before .before .before .before .before .before .loop .inv) _ refl) }
+mul-parts c = record { fits = omega (arith, counted-few (c .before .before .before .before .before .before .loop .inv) _ refl) }
 
 slice-write-parts : tie.Need-slice-write-parts Inv-loop μ-loop
-slice-write-parts c = index-p (c .before .before .before .before .before .before .before .loop .inv) _ refl
+slice-write-parts c = index-p (c .before .before .before .before .before .before .loop .inv) _ refl
 
-add-t23 : tie.Need-add-t23 Inv-loop μ-loop
-add-t23 c = record { fits = omega (arith, counted-few (c .before .before .before .before .before .before .before .loop .inv) _ refl) }
+add-entries : tie.Need-add-entries Inv-loop μ-loop
+add-entries c = record { fits = omega (arith, counted-few (c .before .before .before .before .before .before .loop .inv) _ refl) }
 
-mul-t25 : tie.Need-mul-t25 Inv-loop μ-loop
-mul-t25 c = let k = c .before .before .before .before .before .before in record { fits = omega (arith, sum-fits (at-loop k .loop .inv) _ (with-ray k (c .before .before .if1 .taken))) }
+mul-sum : tie.Need-mul-sum Inv-loop μ-loop
+mul-sum c = let k = c .before .before .before .before .before .before in record { fits = omega (arith, sum-fits (at-loop k .loop .inv) _ (with-ray k (c .before .before .if1 .taken))) }
 
-add-t26 : tie.Need-add-t26 Inv-loop μ-loop
-add-t26 c = let k = c .before .before .before .before .before .before in record { fits = sum-fits (at-loop k .loop .inv) _ (with-ray k (c .before .before .if1 .taken)) }
+add-sum : tie.Need-add-sum Inv-loop μ-loop
+add-sum c = let k = c .before .before .before .before .before .before in record { fits = sum-fits (at-loop k .loop .inv) _ (with-ray k (c .before .before .if1 .taken)) }
 
 same-length : tie.Need-same-length Inv-loop μ-loop
 same-length c = let l = c .before .before .before .before .before .before .before .loop in length-set (l .voxels) (l .r) (l .w .v % 2 ^ 32) ∙ l .inv .put .voxels-so .size
@@ -100,11 +100,11 @@ mul-parts-2 c = record { fits = omega (arith, counted-few (c .before .before .be
 slice-write-parts-2 : tie.Need-slice-write-parts-2 Inv-loop μ-loop
 slice-write-parts-2 c = index-p (c .before .before .before .before .before .before .before .loop .inv) _ refl
 
-mul-sum : tie.Need-mul-sum Inv-loop μ-loop
-mul-sum c = let k = c .before .before .before .before .before .before in record { fits = omega (arith, sum-fits (at-loop k .loop .inv) _ (with-voxel k (c .before .before .if1 .left))) }
+mul-sum-2 : tie.Need-mul-sum-2 Inv-loop μ-loop
+mul-sum-2 c = let k = c .before .before .before .before .before .before in record { fits = omega (arith, sum-fits (at-loop k .loop .inv) _ (with-voxel k (c .before .before .if1 .left))) }
 
-add-sum : tie.Need-add-sum Inv-loop μ-loop
-add-sum c = let k = c .before .before .before .before .before .before in record { fits = sum-fits (at-loop k .loop .inv) _ (with-voxel k (c .before .before .if1 .left)) }
+add-sum-2 : tie.Need-add-sum-2 Inv-loop μ-loop
+add-sum-2 c = let k = c .before .before .before .before .before .before in record { fits = sum-fits (at-loop k .loop .inv) _ (with-voxel k (c .before .before .if1 .left)) }
 
 add-r : tie.Need-add-r Inv-loop μ-loop
 add-r c = record { fits = omega (arith, counted-few (c .before .before .before .before .before .before .before .loop .inv) _ refl) }
@@ -139,17 +139,17 @@ fill-spec =
     sub-part
     mul-parts
     slice-write-parts
-    add-t23
-    mul-t25
-    add-t26
+    add-entries
+    mul-sum
+    add-sum
     same-length
     same-length-2
     returns
     sub-part-2
     mul-parts-2
     slice-write-parts-2
-    mul-sum
-    add-sum
+    mul-sum-2
+    add-sum-2
     add-r
     loop-less
     loop-again)
