@@ -14,8 +14,7 @@ use Rattle.line.specs.Scene.{plane, Sized, Within}
 use Rattle.line.specs.Reach.{crossAt, crossedOn}
 use Rattle.ray.proofs.Way.{Way, up, down, still, Goes}
 use Rattle.line.proofs.Units.{moves, stays, run-up, run-down}
-use Rattle.line.specs.Beyond.{beyond}
-use Rattle.line.proofs.Beyond.{beyondBy, beyond-by, up-key, down-key, up-rise, down-fall}
+use Rattle.line.proofs.Beyond.{up-key, down-key, up-rise, down-fall}
 use Rattle.line.proofs.Stretch.{wayOf, going, enter-voxel, leave-voxel, one-voxel}
 
 -- ---- the numbers above lo and not above hi, counted
@@ -92,15 +91,3 @@ module _ (a : Line) (c : ℕ) where
 
     pub crossed-is : (i - j) + (j - i) ≡ crossedOn a c from to
     crossed-is = sym (crossed-by (wayOf a) (going a))
-
-    -- and between the planes by which the two voxels are left
-    beyond-apart : (w : Way) → Goes w (a .p) (a .q) → (beyondBy w i - beyondBy w j) + (beyondBy w j - beyondBy w i) ≡ (i - j) + (j - i)
-    beyond-apart up g = omega arith
-    beyond-apart down g = refl
-    beyond-apart still g = omega (arith, still-same g)
-
-    pub crossed-beyond : (beyond a i - beyond a j) + (beyond a j - beyond a i) ≡ crossedOn a c from to
-    crossed-beyond =
-        let by = beyond-by a (wayOf a) (going a) in
-        ap (λ (x : ℕ). (x - beyond a j) + (beyond a j - x)) (by i) ∙ ap (λ (x : ℕ). (beyondBy (wayOf a) i - x) + (x - beyondBy (wayOf a) i)) (by j)
-        ∙ beyond-apart (wayOf a) (going a) ∙ crossed-is

@@ -17,7 +17,7 @@ use Rattle.line.specs.declared.line.Line.{Line}
 use Rattle.line.specs.declared.scene.Scene.{Scene}
 use Rattle.line.specs.Scene.{line, volumeOf, rayOf, Sized, Able, leavesAt, heldAt, Window, Within}
 use Rattle.line.specs.Reach.{leftAt, crossedOn}
-use Rattle.line.specs.Beyond.{First, Stretch}
+use Rattle.line.specs.Beyond.{Stretch}
 use Rattle.line.proofs.Three.{each, most-le, le-most, least-le, most-mono}
 use Rattle.line.proofs.Stretch.{going, enter-whole}
 use Rattle.line.proofs.Steps.{stride}
@@ -60,9 +60,6 @@ module _ {s : Scene} (able : Able s) where
 
   pub d-few : dOf (rayOf s) ≤ 2 ^ 60
   d-few = three-sizes (factor-few X) (rest-few X)
-
-  pub unit-some : (o : Side) → 0 < unit (volumeOf s) o
-  unit-some = each _ (omega arith) (able .sized X .some) (mul-pos (able .sized Y .some) (able .sized X .some))
 
   pub unit-few : (o : Side) → unit (volumeOf s) o ≤ 2 ^ 18
   unit-few = unit-small (volumeOf s) (λ o. able .sized o .n-size)
