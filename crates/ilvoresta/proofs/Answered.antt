@@ -1,7 +1,7 @@
 -- From what the trace answers to what its entry point promises. Assumes nothing.
 use Prim.Native.Nat.{ℕ}
 use mathlib.Core.Path.{_≡_, refl, sym, ap, _∙_}
-use mathlib.Core.Bool.{Bool}
+use mathlib.Core.Bool.{Bool, false}
 use mathlib.Core.List.{List}
 use lib.ListN.{length}
 use borrow.Author.Tests.{eq-eqb, ne-eqb}
@@ -13,7 +13,7 @@ use Rattle.ray.specs.declared.Ray.{Ray}
 use Rattle.ray.specs.Codes.{traceRows}
 use Rattle.tracing.specs.declared.Trace.{Trace}
 use Rattle.tracing.specs.Answer.{Lists, lent, codeOf, voxelsAfter, partsAfter, Answers}
-use Rattle.tracing.specs.Inside.{Asked, AnswersWhen}
+use Rattle.tracing.specs.Inside.{AnswersWhen}
 use Rattle.tracing.proofs.OneCall.{code-is, fields, when-code, when-refused}
 use Rattle.ilvoresta.specs.Entry.{lengthRow, traceCode, sixOf, Traced}
 
@@ -34,11 +34,11 @@ module _ {m : Limits} {g : Grid} {r : Ray} {l : Lists} {ans : List ℕ} {t : Tra
       }
 
   -- it would not, and the list is not one of six
-  pub other-length : Asked m g r l t vs ps → t .code ≡ 0 → (length ans ≡ 6 → ⊥) → Traced m g r l ans 17 vs ps ans
-  other-length a e h = record {
-    code-is = sym (in-turn m g r l ans ∙ then-on _ _ (sym (ap (λ (x : Trace). x .code) (a .answer)) ∙ e) ∙ rw (ne-eqb (length ans) 6 h) refl);
-    voxels-now = a .voxels-now;
-    parts-now = a .parts-now;
+  pub other-length : {ready : Bool} → AnswersWhen ready m g r l t vs ps → ready ≡ false → t .code ≡ 0 → (length ans ≡ 6 → ⊥) → Traced m g r l ans 17 vs ps ans
+  other-length {ready} a off e h = record {
+    code-is = sym (in-turn m g r l ans ∙ then-on _ _ (sym (when-code ready a) ∙ e) ∙ rw (ne-eqb (length ans) 6 h) refl);
+    voxels-now = a .voxels-now ∙ rw off refl;
+    parts-now = a .parts-now ∙ rw off refl;
     answer-now = refl;
   }
 

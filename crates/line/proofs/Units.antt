@@ -72,9 +72,15 @@ run-up p q x g = rw (lt-ltb p q g) (natural-diff x p)
 pub run-down : (p q x : ℕ) → q ≤ p → run (legN p q) (pos x) ≡ p - x
 run-down p q x g = rw (le-ltb p q (omega arith)) (natural-diff p x)
 
--- with no jump on the way: x less the start going up, else the start less y
-pub aimed-is : (p q x y : ℕ) (f : ℕ → ℕ) {r : ℕ} → (p < q → r ≡ f (x - p)) → (q ≤ p → r ≡ f (p - y)) → f (cond (ltb p q) x p - cond (ltb p q) p y) ≡ r
-aimed-is p q x y f g h = elim (decLt p q) [ yes k ↦ rw (lt-ltb p q k) (sym (g k)) | no k ↦ rw (le-ltb p q (omega arith)) (sym (h (omega arith))) ]
+-- the same by numbers chosen, with no branch on the way: of a place, and of one of two
+pub run-is : (p q x : ℕ) → cond (ltb p q) x p - cond (ltb p q) p x ≡ run (legN p q) (pos x)
+run-is p q x = elim (decLt p q) [ yes g ↦ rw (lt-ltb p q g) (sym (natural-diff x p)) | no g ↦ rw (le-ltb p q (omega arith)) (sym (natural-diff p x)) ]
+
+pub aimed-is : (p q x y : ℕ) (f : ℕ → ℕ) {c n r : ℕ} → c ≡ cond (ltb p q) x y → n ≡ run (legN p q) (pos c) → (p < q → r ≡ f (x - p)) → (q ≤ p → r ≡ f (p - y)) → f n ≡ r
+aimed-is p q x y f e k g h = elim (decLt p q) [
+  | yes l ↦ ap f (k ∙ run-up p q _ l ∙ ap (λ (z : ℕ). z - p) (e ∙ rw (lt-ltb p q l) refl)) ∙ sym (g l)
+  | no l ↦ ap f (k ∙ run-down p q _ (omega arith) ∙ ap (λ (z : ℕ). p - z) (e ∙ rw (le-ltb p q (omega arith)) refl)) ∙ sym (h (omega arith))
+]
 
 pub enters-is : (w : Way) (p q lo hi rest : ℕ) → Goes w p q → lo ≤ hi → enters rest (legN p q) (slabN lo hi true) ≡ enterBy w p lo hi * rest
 enters-is up p q lo hi rest g h = rw (lt-ltb p q g, natural-diff lo p, natural-diff hi p) (ap (λ (x : ℕ). x * rest) (omega arith))

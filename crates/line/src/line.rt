@@ -42,8 +42,7 @@ impl Line {
         if self.p == self.q {
             return 0;
         }
-        let up = self.p < self.q;
-        past(either(up, self.p, hi), either(up, lo, self.p))
+        self.run(either(self.p < self.q, lo, hi))
     }
 
     // Where it goes out of them; a still axis leaves it whole.
@@ -54,8 +53,7 @@ impl Line {
         if self.p == self.q {
             return 1;
         }
-        let up = self.p < self.q;
-        past(either(up, self.p, lo), either(up, hi, self.p))
+        self.run(either(self.p < self.q, hi, lo))
     }
 
     // Whether the array holds the ray, where lo and hi are its first and far plane: both are its own.

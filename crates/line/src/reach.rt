@@ -13,8 +13,9 @@ pub struct Reach {
 }
 
 impl Line {
-    // Equation (4) for the first plane and the far one, and the lesser and the greater α as equation (5) takes them. Units are
-    // α times |q - p| and D is c |q - p|, so α times D is c times the units. A still axis leaves all of it, 0 to D.
+    // Equation (4) for the plane by which the ray comes in and the one by which it goes out: going up the first and the far one, going
+    // down the other way round. So they are the lesser and the greater α that equation (5) takes. Units are α times |q - p| and D is
+    // c |q - p|, so α times D is c times the units. A still axis leaves all of it, 0 to D.
     pub fn reach(self, c: u64) -> Reach
         requires { ⌜ Sized self × (c ≤ 2 ^ 40) ⌝ }
         ensures { λ r. ⌜ Reached self c r ⌝ }

@@ -6,7 +6,6 @@ use mathlib.Core.List.{List, map}
 use lib.IntN.{ℤ, pos}
 use borrow.Author.Tests.{ne-eqb}
 use Rattle.axis.specs.declared.Limits.{Limits}
-use Rattle.axis.proofs.Flag.{off-or-on}
 use Rattle.ray.specs.declared.Grid.{Grid}
 use Rattle.ray.specs.declared.Ray.{Ray}
 use Rattle.ray.specs.declared.Lent.{Lent}
@@ -35,15 +34,16 @@ module _ (m : Limits) (g : Grid) (r : Ray) (l : Lists) where
   accepts e k v p = record { answer = rw e k; voxels-now = rw e v; parts-now = rw e p }
 
   -- where the call may write, and where it may not
-  module _ {ready : Bool} {a : Trace} {vs ps : List ℕ} where
-    pub refuses-when : (c : ℕ) → c ≡ codeOf m g r (lent l) → (c ≡ 0 → ⊥) → a ≡ refused c → vs ≡ l .voxels → ps ≡ l .parts → AnswersWhen ready m g r l a vs ps
-    refuses-when c e h k v p = record { made = λ _. refuses c e h k v p; asked = λ _. record { answer = k ∙ ap refused e; voxels-now = v; parts-now = p } }
+  module _ {a : Trace} {vs ps : List ℕ} where
+    pub refuses-when : (ready : Bool) (c : ℕ) → c ≡ codeOf m g r (lent l) → (c ≡ 0 → ⊥) → a ≡ refused c → vs ≡ l .voxels → ps ≡ l .parts → AnswersWhen ready m g r l a vs ps
+    refuses-when true c e h k v p = let t = refuses c e h k v p in record { answer = t .answer; voxels-now = t .voxels-now; parts-now = t .parts-now }
+    refuses-when false c e h k v p = record { answer = k ∙ ap refused e; voxels-now = v; parts-now = p }
 
-    pub accepts-when : ready ≡ true → Answers m g r l a vs ps → AnswersWhen ready m g r l a vs ps
-    accepts-when on h = record { made = λ _. h; asked = λ off. off-or-on ready on off }
+    pub accepts-when : {ready : Bool} → ready ≡ true → Answers m g r l a vs ps → AnswersWhen ready m g r l a vs ps
+    accepts-when e t = rw e (record { answer = t .answer; voxels-now = t .voxels-now; parts-now = t .parts-now })
 
-    pub asks-when : ready ≡ false → codeOf m g r (lent l) ≡ 0 → a ≡ refused 0 → vs ≡ l .voxels → ps ≡ l .parts → AnswersWhen ready m g r l a vs ps
-    asks-when off h k v p = record { made = λ on. off-or-on ready on off; asked = λ _. record { answer = k ∙ ap refused (sym h); voxels-now = v; parts-now = p } }
+    pub asks-when : {ready : Bool} → ready ≡ false → codeOf m g r (lent l) ≡ 0 → a ≡ refused 0 → vs ≡ l .voxels → ps ≡ l .parts → AnswersWhen ready m g r l a vs ps
+    asks-when e h k v p = rw e (record { answer = k ∙ ap refused (sym h); voxels-now = v; parts-now = p })
 
 -- ---- what the walk finds of the scene is the grid's and the ray's
 module _ (m : Limits) (small : Small m) (g : Grid) (r : Ray) (l : Lent) (ok : Accepted m g r l) (s : Scene) (e : s ≡ sceneOf m g r) where

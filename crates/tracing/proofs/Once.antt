@@ -1,7 +1,7 @@
 -- Two answers allowed by the promise of a public call of this crate are equal, and so are the lists it leaves. Assumes nothing.
 use Prim.Native.Nat.{ℕ}
-use mathlib.Core.Path.{_≡_, refl}
-use mathlib.Core.Bool.{Bool, true, false}
+use mathlib.Core.Path.{_≡_}
+use mathlib.Core.Bool.{Bool}
 use mathlib.Core.List.{List}
 use Rattle.axis.specs.declared.Limits.{Limits}
 use Rattle.axis.proofs.Once.{once}
@@ -19,8 +19,4 @@ append-once m g r l a a′ vs vs′ ps ps′ x y = (once (x .answer) (y .answer)
 -- and `trace_when`
 pub when-once : (ready : Bool) (m : Limits) (g : Grid) (r : Ray) (l : Lists) (a a′ : Trace) (vs vs′ ps ps′ : List ℕ)
     → AnswersWhen ready m g r l a vs ps → AnswersWhen ready m g r l a′ vs′ ps′ → (a ≡ a′) × ((vs ≡ vs′) × (ps ≡ ps′))
-when-once true m g r l a a′ vs vs′ ps ps′ x y = append-once m g r l a a′ vs vs′ ps ps′ (x .made refl) (y .made refl)
-when-once false m g r l a a′ vs vs′ ps ps′ x y =
-    let x = x .asked refl in
-    let y = y .asked refl in
-    (once (x .answer) (y .answer), (once (x .voxels-now) (y .voxels-now), once (x .parts-now) (y .parts-now)))
+when-once ready m g r l a a′ vs vs′ ps ps′ x y = (once (x .answer) (y .answer), (once (x .voxels-now) (y .voxels-now), once (x .parts-now) (y .parts-now)))

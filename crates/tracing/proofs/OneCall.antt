@@ -1,4 +1,4 @@
--- What one call holds, accepted or refused: read off the promises of `trace` and `append`, and nothing else. Assumes nothing.
+-- What one call holds, accepted or refused: read off the promises of `trace`, `append` and `trace_when`, and nothing else. Assumes nothing.
 use Prim.Native.Nat.{ℕ, _+_, _≤_, _<_}
 use mathlib.Core.Path.{_≡_, refl, sym, ap, _∙_}
 use mathlib.Core.Bool.{Bool, true, false, cond}
@@ -127,15 +127,18 @@ module _ {m : Limits} {g : Grid} {r : Ray} {l : Lists} {a : Trace} {vs′ ps′ 
     unfolding partsAfter
     parts-unchanged = t .parts-now ∙ rw code-not-0 refl
 
--- ---- a call that is told whether it may write: its code, and a refusal
+-- ---- a call that is told whether it may write: where it may it is a trace; its code, and a refusal
 module _ {m : Limits} {g : Grid} {r : Ray} {l : Lists} {a : Trace} {vs′ ps′ : List ℕ} where
+  pub made : {ready : Bool} → AnswersWhen ready m g r l a vs′ ps′ → ready ≡ true → Answers m g r l a vs′ ps′
+  made t e = record { answer = t .answer ∙ rw e refl; voxels-now = t .voxels-now ∙ rw e refl; parts-now = t .parts-now ∙ rw e refl }
+
   pub when-code : (ready : Bool) → AnswersWhen ready m g r l a vs′ ps′ → a .code ≡ codeOf m g r (lent l)
-  when-code true t = code-is (t .made refl)
-  when-code false t = ap (λ (x : Trace). x .code) (t .asked refl .answer)
+  when-code true t = code-is (made t refl)
+  when-code false t = ap (λ (x : Trace). x .code) (t .answer)
 
   pub when-refused : (ready : Bool) → AnswersWhen ready m g r l a vs′ ps′ → (a .code ≡ 0 → ⊥) → (vs′ ≡ l .voxels) × (ps′ ≡ l .parts)
-  when-refused true t h = (voxels-unchanged (t .made refl) h, parts-unchanged (t .made refl) h)
-  when-refused false t h = (t .asked refl .voxels-now, t .asked refl .parts-now)
+  when-refused true t h = (voxels-unchanged (made t refl) h, parts-unchanged (made t refl) h)
+  when-refused false t h = (t .voxels-now, t .parts-now)
 
 -- ---- a trace that is accepted
 module _ {m : Limits} {g : Grid} {r : Ray} {densities vs ps vs′ ps′ : List ℕ} {a : Trace} (t : Traced m g r densities vs ps a vs′ ps′) (h : a .code ≡ 0) where

@@ -1,7 +1,7 @@
 -- What tracing's inner functions say to each other. A reader of the promises needs none of it. Definitions only. Assumes nothing.
 use Prim.Native.Nat.{ℕ, _+_, _^_, _≤_}
 use mathlib.Core.Path.{_≡_}
-use mathlib.Core.Bool.{Bool, true, false}
+use mathlib.Core.Bool.{Bool, cond}
 use mathlib.Core.List.{List}
 use Rattle.axis.specs.declared.Limits.{Limits}
 use Rattle.axis.specs.Codes.{first}
@@ -12,9 +12,9 @@ use Rattle.ray.specs.Length.{volume, count}
 use Rattle.ray.specs.Codes.{gridRows, endRows}
 use Rattle.line.specs.Raised.{Small, cube}
 use Rattle.tracing.specs.declared.Trace.{Trace}
-use Rattle.tracing.specs.Answer.{Lists, lent, codeOf, refused, Answers}
+use Rattle.tracing.specs.Answer.{Lists, lent, codeOf, refused, answerOf, voxelsAfter, partsAfter}
 
--- limits at which a ray can be traced and summed up: the walk's, and that D is small enough for the sum
+-- limits at which a ray can be traced and summed up: the walk's, and that D is at most what RULES 3 says, which is enough for the sum
 pub record Suited (m : Limits) : Type 0 where
   pub small : Small m
   pub d-size : cube (m .coord + m .coord) ≤ 2 ^ 45
@@ -26,12 +26,8 @@ pub record Accepted (m : Limits) (g : Grid) (r : Ray) (l : Lent) : Type 0 where
   pub densities-are : l .densities ≡ count (volume g)
   pub lists-are : l .voxels ≡ l .parts
 
--- where a call may not write: the code alone, and both lists as they were
-pub record Asked (m : Limits) (g : Grid) (r : Ray) (l : Lists) (a : Trace) (voxels parts : List ℕ) : Type 0 where
-  pub answer : a ≡ refused (codeOf m g r (lent l))
-  pub voxels-now : voxels ≡ l .voxels
-  pub parts-now : parts ≡ l .parts
-
+-- an answer where the call may write, and else the code alone and both lists as they were
 pub record AnswersWhen (ready : Bool) (m : Limits) (g : Grid) (r : Ray) (l : Lists) (a : Trace) (voxels parts : List ℕ) : Type 0 where
-  pub made : ready ≡ true → Answers m g r l a voxels parts
-  pub asked : ready ≡ false → Asked m g r l a voxels parts
+  pub answer : a ≡ cond ready (answerOf m g r l) (refused (codeOf m g r (lent l)))
+  pub voxels-now : voxels ≡ cond ready (voxelsAfter m g r l) (l .voxels)
+  pub parts-now : parts ≡ cond ready (partsAfter m g r l) (l .parts)

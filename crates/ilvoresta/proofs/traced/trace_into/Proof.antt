@@ -1,5 +1,6 @@
 -- `traced::trace_into` meets its contract. Assumes nothing.
 use borrow.Author.Tests.{eqb-true, eqb-false}
+use Rattle.tracing.proofs.OneCall.{made}
 use Rattle.ilvoresta.proofs.Answered.{untraced, other-length, traced}
 use borrow.Author.Needs.{needs}
 use Rattle.ilvoresta.proofs.traced.trace_into.Statement.{statement}
@@ -33,7 +34,7 @@ returns-2 : tie.Need-returns-2
 returns-2 c =
     let k = c .before .before .before .before in
     rw (c .before .before .put-six .ensures)
-    (traced (k .before .before .before .before .before .before .before .trace-when .ensures .made (k .if2 .taken)) (k .before .if1 .left) (eqb-true _ 6 (k .if2 .taken)))
+    (traced (made (k .before .before .before .before .before .before .before .trace-when .ensures) (k .if2 .taken)) (k .before .if1 .left) (eqb-true _ 6 (k .if2 .taken)))
 
 same-length-6 : tie.Need-same-length-6
 same-length-6 c = search needs
@@ -43,7 +44,7 @@ same-length-7 c = search needs
 
 returns-3 : tie.Need-returns-3
 returns-3 c =
-    other-length (c .before .before .before .before .before .before .before .trace-when .ensures .asked (c .if2 .left)) (c .before .if1 .left) (eqb-false _ 6 (c .if2 .left))
+    other-length (c .before .before .before .before .before .before .before .trace-when .ensures) (c .if2 .left) (c .before .if1 .left) (eqb-false _ 6 (c .if2 .left))
 
 pub trace-into-spec : {M : Type 1} → statement M
 trace-into-spec =

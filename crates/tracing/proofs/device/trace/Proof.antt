@@ -1,4 +1,5 @@
 use mathlib.Core.Path.{refl}
+use Rattle.tracing.proofs.OneCall.{made}
 use borrow.Author.Needs.{needs}
 use Rattle.tracing.proofs.device.trace.Statement.{statement}
 use Rattle.tracing.proofs.device.trace.Tie as tie
@@ -13,7 +14,7 @@ same-length-2 : tie.Need-same-length-2
 same-length-2 c = search needs
 
 returns : tie.Need-returns
-returns c = c .before .before .before .before .trace-when .ensures .made refl
+returns c = made (c .before .before .before .before .trace-when .ensures) refl
 
 pub trace-spec : {M : Type 1} → statement M
 trace-spec = tie.close (tie.spec trace-when-requires same-length same-length-2 returns)

@@ -83,7 +83,7 @@ returns c =
     let a = c .before .before .before .before .before .before .args in
     let l = lists (a .densities .now) (a .voxels .now) (a .parts .now) 0 in
     let e = c .before .before .front-code .ensures in
-    refuses-when (a .m) (a .g) (a .r) l _ (stopped (a .m) (a .g) (a .r) (lent l) e (c .before .if1 .taken)) (c .before .if1 .taken) (c .refusal .ensures) refl refl
+    refuses-when (a .m) (a .g) (a .r) l (a .ready) _ (stopped (a .m) (a .g) (a .r) (lent l) e (c .before .if1 .taken)) (c .before .if1 .taken) (c .refusal .ensures) refl refl
 
 scene-of-requires : tie.Need-scene-of-requires
 scene-of-requires c κs = search needs
@@ -117,7 +117,7 @@ returns-2 c =
     let w = c .before .before .before .before .before .before .before .before in
     let short = c .before .if2 .taken in
     let old = both-kept (fit w) (omega (arith, room-few w, number w)) in
-    refuses-when (m (k w)) (g (k w)) (r (k w)) (l (k w)) 8 (no-room (m (k w)) (g (k w)) (r (k w)) (lent (l (k w))) (front (k w)) (omega (arith, number w, short))) (λ z. omega arith) (c .refusal2 .ensures) (old .0) (old .1)
+    refuses-when (m (k w)) (g (k w)) (r (k w)) (l (k w)) (start (k w) .args .ready) 8 (no-room (m (k w)) (g (k w)) (r (k w)) (lent (l (k w))) (front (k w)) (omega (arith, number w, short))) (λ z. omega arith) (c .refusal2 .ensures) (old .0) (old .1)
 
 same-length-3 : tie.Need-same-length-3
 same-length-3 c = search needs

@@ -13,21 +13,17 @@ returns c = λ rest. let a = c .before .before .args .self in rw (stays (a .p) (
 either-requires : tie.Need-either-requires
 either-requires c κs = search needs
 
-either-requires-2 : tie.Need-either-requires-2
-either-requires-2 c κs = search needs
-
-past-requires : tie.Need-past-requires
-past-requires c κs = search needs
+run-requires : tie.Need-run-requires
+run-requires c κs = search needs
 
 returns-2 : tie.Need-returns-2
 returns-2 c = λ rest.
-    let s = c .before .before .before .before .before .before in
+    let s = c .before .before .before .before .before in
     let p = s .args .self .p in
     let q = s .args .self .q in
     let lo = s .args .lo in
     let hi = s .args .hi in
-    rw (c .past .ensures, c .before .either2 .ensures, c .before .before .either .ensures)
-    (aimed-is p q hi lo (λ n. n * rest) (λ g. leaves-is up p q lo hi rest g (s .pre)) (λ g. leaves-is down p q lo hi rest (omega (arith, c .before .before .before .before .if1 .left)) (s .pre)))
+    aimed-is p q hi lo (λ n. n * rest) (c .before .either .ensures) (c .run .ensures) (λ g. leaves-is up p q lo hi rest g (s .pre)) (λ g. leaves-is down p q lo hi rest (omega (arith, c .before .before .before .if1 .left)) (s .pre))
 
 pub leave-spec : {M : Type 1} → statement M
-leave-spec = tie.close (tie.spec returns either-requires either-requires-2 past-requires returns-2)
+leave-spec = tie.close (tie.spec returns either-requires run-requires returns-2)

@@ -1,4 +1,4 @@
-use Rattle.line.proofs.Units.{run-up, run-down, aimed-is}
+use Rattle.line.proofs.Units.{run-is}
 use borrow.Author.Needs.{needs}
 use Rattle.line.proofs.line.Line.run.Statement.{statement}
 use Rattle.line.proofs.line.Line.run.Tie as tie
@@ -15,9 +15,7 @@ past-requires c κs = search needs
 returns : tie.Need-returns
 returns c =
     let s = c .before .before .before .before .args in
-    let p = s .self .p in
-    let q = s .self .q in
-    rw (c .past .ensures, c .before .either2 .ensures, c .before .before .either .ensures) (aimed-is p q (s .c) (s .c) (λ n. n) (run-up p q (s .c)) (run-down p q (s .c)))
+    rw (c .past .ensures, c .before .either2 .ensures, c .before .before .either .ensures) (run-is (s .self .p) (s .self .q) (s .c))
 
 pub run-spec : {M : Type 1} → statement M
 run-spec = tie.close (tie.spec either-requires either-requires-2 past-requires returns)
