@@ -40,7 +40,7 @@ way-is a up g x y z = rw (lt-ltb (a .p) (a .q) g) refl
 way-is a down g x y z = rw (le-ltb (a .p) (a .q) (omega arith), lt-ltb (a .q) (a .p) g) refl
 way-is a still g x y z = rw (le-ltb (a .p) (a .q) (omega arith), le-ltb (a .q) (a .p) (omega arith)) refl
 
--- t more going up and t less going down, with no jump on the way: `more` is added and `less` taken off
+-- t more going up and t less going down, with no branch on the way: `more` is added and `less` taken off
 abbrev pub Shifted : Line → (x t more less : ℕ) → Type 0
 Shifted a x t more less = (more ≤ t) × (less ≤ x + more) × (x + more - less ≡ byWay a (x + t) (x - t) x)
 

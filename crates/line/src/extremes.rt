@@ -28,7 +28,7 @@ pub fn past(a: u64, b: u64) -> u64
     if a < b { b - a } else { 0 }
 }
 
-// One of two numbers that are both at hand. Which way a ray goes is hard to foresee, so nothing jumps on it before the walk.
+// One of two numbers that are both at hand. Which way a ray goes is hard to foresee, so the machine is to choose and not to branch.
 pub fn either(first: bool, a: u64, b: u64) -> u64
     ensures { λ r. ⌜ r ≡ cond first a b ⌝ }
 {

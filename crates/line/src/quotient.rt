@@ -81,8 +81,9 @@ impl Line {
     {
         // (13): the middle is at α = (from + next) / 2D. On a moving axis D is c |q - p|, so its place is whole in half ticks, 2c to a unit.
         let middle = self.spot(2 * c, from + next);
-        // (12), less the 1 that the paper counts from: the bracket and the spacing, both in half ticks.
+        // The voxel before the plane ahead, as a guess.
         let near = past(1 - self.back(), first);
+        // (12), less the 1 that the paper counts from: the bracket and the spacing, both in half ticks.
         let i = self.quotient_near(2 * c, middle, near);
         // Only for a still ray in the far face, which belongs to the last voxel (RULES 2), is that one too high.
         least(i, self.n - 1)

@@ -1,6 +1,6 @@
 -- Laws of the trace.
 pub mod Accepting
-pub mod Summing
+pub mod Fitting
 pub mod Answering
 pub mod Appending
 pub mod Once

@@ -1,4 +1,4 @@
-// The calls at the limits of any device that suits the walk and the sum.
+// The calls at the limits of any device that suits.
 ghost use mathlib.Core.Path.{_≡_};
 ghost use mathlib.Core.Bool.{cond};
 ghost use Rattle.tracing.specs.Answer.{refused, lists, Answers};

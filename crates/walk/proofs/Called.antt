@@ -1,11 +1,11 @@
 -- What the one call of the walk comes to, from what it finds on the way. Assumes nothing.
 use Prim.Native.Nat.{ℕ, _+_, _-_, _*_, _^_, _≤_, _<_}
-use mathlib.Core.Path.{_≡_, refl, sym, ap, subst, _∙_}
+use mathlib.Core.Path.{_≡_, refl, sym, ap, ap₂, subst, _∙_}
 use mathlib.Core.Bool.{Bool, true, false, cond}
 use mathlib.Core.List.{List, [], _∷_, map, sum, List·Memᴰ, List·Memᴰ·head, List·Memᴰ·tail}
 use native.Mathlib.Omega.{arith}
 use native.Mathlib.Nat.{le-trans}
-use lib.ListN.{length, getD, length-map}
+use lib.ListN.{length, drop, getD}
 use lib.Dec.{leb}
 use borrow.Author.Tests.{not-true, not-false, le-leb, lt-leb}
 use Rattle.ray.specs.declared.Ray.{Ray}
@@ -22,44 +22,31 @@ use Rattle.walk.specs.declared.entries.Tally.{Tally}
 use Rattle.walk.specs.Model.{Entry, voxels, parts, entries, weight, Dense, tallyOf, Filled}
 use Rattle.walk.specs.Plan.{Framed, Planned}
 use Rattle.walk.specs.Walked.{walkedOf, Fitted, Entered}
+use Rattle.walk.proofs.Filling.{many-voxels, many-parts}
 use Rattle.walk.proofs.Walking.{cut-le}
 use Rattle.walk.proofs.Plans.{proper}
 use Rattle.walk.proofs.Counts.{entries-few, missed-list, missed-sum}
 
 module _ (es : List Entry) (room : ℕ) where
-  voxels-number : length (voxels es) ≡ length es
-  voxels-number = length-map es (λ (e : Entry). e .voxel)
-
-  parts-number : length (parts es) ≡ length es
-  parts-number = length-map es (λ (e : Entry). e .part)
-
   -- with room, and without
   pub roomy : {densities vs ps vs₀ ps₀ : List ℕ} {t : Tally} → length es ≤ room → t ≡ tallyOf densities es → Filled es vs ps vs₀ ps₀ → Entered densities es room t vs ps vs₀ ps₀
   roomy h e f = record {
     tally-is = e ∙ rw (le-leb (length es) room h) refl;
-    voxels-now = f .voxels-now ∙ rw (voxels-number, le-leb (length es) room h) refl;
-    parts-now = f .parts-now ∙ rw (parts-number, le-leb (length es) room h) refl;
+    voxels-now = f .voxels-now ∙ rw (many-voxels es, le-leb (length es) room h) refl;
+    parts-now = f .parts-now ∙ rw (many-parts es, le-leb (length es) room h) refl;
   }
 
   pub cramped : {densities vs₀ ps₀ : List ℕ} {n : ℕ} → n ≡ length es → room < n → Entered densities es room (record { entries = n; crossed = 0; sum = 0 }) vs₀ ps₀ vs₀ ps₀
   cramped number h =
       let short : leb (length es) room ≡ false = lt-leb (length es) room (omega arith) in
-      record { tally-is = rw (number, short) refl; voxels-now = rw (voxels-number, short) refl; parts-now = rw (parts-number, short) refl }
+      record { tally-is = rw (number, short) refl; voxels-now = rw (many-voxels es, short) refl; parts-now = rw (many-parts es, short) refl }
 
--- the weighted sum by the two lists, and by the parts of one
-abbrev weigh : List ℕ → List ℕ → List ℕ → ℕ
-weigh densities [] ps = 0
-weigh densities (v ∷ vs) [] = 0
-weigh densities (v ∷ vs) (p ∷ ps) = p * getD densities v 0 + weigh densities vs ps
-
-weigh-entries : (densities : List ℕ) (es : List Entry) → weight densities es ≡ weigh densities (voxels es) (parts es)
-weigh-entries densities [] = refl
-weigh-entries densities (e ∷ es) = ap (λ (x : ℕ). e .part * getD densities (e .voxel) 0 + x) (weigh-entries densities es)
-
-weigh-list : (part : ℕ → ℕ) (densities vs : List ℕ) → weigh densities vs (map part vs) ≡ sumList (map (λ m. part m * getD densities m 0) vs)
+-- the weighted sum by the parts of the voxels
+weigh-list : (part : ℕ → ℕ) (densities : List ℕ) (es : List Entry) → parts es ≡ map part (voxels es) → weight densities es ≡ sumList (map (λ m. part m * getD densities m 0) (voxels es))
 unfolding sum
-weigh-list part densities [] = refl
-weigh-list part densities (v ∷ vs) = ap (λ (x : ℕ). part v * getD densities v 0 + x) (weigh-list part densities vs)
+weigh-list part densities [] e = refl
+weigh-list part densities (x ∷ es) e =
+    ap₂ (λ (p s : ℕ). p * getD densities (x .voxel) 0 + s) (ap (λ (ps : List ℕ). getD ps 0 0) e) (weigh-list part densities es (ap (drop 1) e))
 
 -- what is told with room, and without
 by-room : (b : Bool) {t : Tally} (n crossed sum : ℕ) {span d squared : ℕ} → t ≡ cond b (record { entries = n; crossed = crossed; sum = sum }) (record { entries = n; crossed = 0; sum = 0 })
@@ -91,7 +78,7 @@ module _ {s : Scene} (able : Able s) {f : Frame} (framed : Framed s f) where
     span-is = rw (framed .to-is, framed .from-is, not-true (misses v r) (sym (framed .hit-is) ∙ hit)) refl
 
     pub number : length es ≡ length (listOf v r)
-    number = sym (length-map es (λ (e : Entry). e .voxel)) ∙ ap length (planned .voxels-are)
+    number = sym (many-voxels es) ∙ ap length (planned .voxels-are)
 
     pub few : length es + 2 ≤ s .x .n + s .y .n + s .z .n
     few = omega (arith, number, entries-few s able)
@@ -106,7 +93,9 @@ module _ {s : Scene} (able : Able s) {f : Frame} (framed : Framed s f) where
 
     weight-is : (densities : List ℕ) → weight densities es ≡ sumOf v r densities
     weight-is densities =
-        weigh-entries densities es ∙ rw (planned .voxels-are, planned .parts-are) (weigh-list (partOf v r) densities (listOf v r)) ∙ sym (sum-list v r densities)
+        weigh-list (partOf v r) densities es (planned .parts-are ∙ ap (map (partOf v r)) (sym (planned .voxels-are)))
+        ∙ ap (λ (vs : List ℕ). sumList (map (λ m. partOf v r m * getD densities m 0) vs)) (planned .voxels-are)
+        ∙ sym (sum-list v r densities)
 
     pub hit-walked : {densities vs ps vs₀ ps₀ : List ℕ} {room : ℕ} (t : Tally) (squared : ℕ) → Entered densities es room t vs ps vs₀ ps₀ → squared ≡ squaredOf r
         → (_≡_ {A = Walked} (record { entries = t .entries; crossed = t .crossed; span = f .to - f .from; denominator = f .denominator; squared = squared; sum = t .sum }) (walkedOf v r densities room))

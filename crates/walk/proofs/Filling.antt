@@ -48,10 +48,10 @@ pub record Put (densities : List ℕ) (es ys : List Entry) (r n sum : ℕ) (vs p
   pub sum-so : weight densities es ≡ sum + weight densities ys
   pub dense : Dense densities ys
 
-many-voxels : (es : List Entry) → length (voxels es) ≡ length es
+pub many-voxels : (es : List Entry) → length (voxels es) ≡ length es
 many-voxels es = length-map es (λ (e : Entry). e .voxel)
 
-many-parts : (es : List Entry) → length (parts es) ≡ length es
+pub many-parts : (es : List Entry) → length (parts es) ≡ length es
 many-parts es = length-map es (λ (e : Entry). e .part)
 
 module _ {densities : List ℕ} {es : List Entry} where

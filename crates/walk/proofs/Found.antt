@@ -1,5 +1,5 @@
 -- What the walk's entries are, once it is known to be walking: ray's list, with its parts, which add up to what is left of the
--- span. One induction over the turns carries each. Assumes nothing.
+-- span, and the planes crossed. One induction over the turns carries each. Assumes nothing.
 use Prim.Native.Nat.{ℕ, zero, suc, _+_, _-_, _≤_, _<_}
 use mathlib.Core.Path.{_≡_, refl, sym, subst, _∙_}
 use mathlib.Core.List.{List, [], _∷_, _++_, map, sum, append-assoc}
@@ -28,6 +28,10 @@ fewer to t u m h k = omega arith
 -- what a turn adds, where u is its end and v the sum of what comes after
 adds-up : (to t u v x : ℕ) → t < u → u < to → x ≡ u → v ≡ to - x → (u - t) + v ≡ to - t
 adds-up to t u v x a b c d = omega arith
+
+-- the planes that the ray crosses on an axis
+abbrev pub crossedBy : Scene → Side → ℕ
+crossedBy s o = crossedOn (line s o) (rest (ray s) o) (fromOf s) (toOf s)
 
 module _ {s : Scene} (able : Able s) {t : Strides} (paced : Paced s t) where
   -- what holds of a last turn, and of a turn wherever it holds of what comes after, holds of a walk
@@ -72,10 +76,6 @@ module _ {s : Scene} (able : Able s) {t : Strides} (paced : Paced s t) where
         rw (number-kept able on)
         (rw append-assoc at (rest (vs ++ (number (vol s) at ∷ [])) (rw (step-tick t w) (one-found (soonest w) l (omega arith) (omega (arith, part-more able on h)) vs so))))
 
-  -- the planes that the ray crosses on an axis
-  abbrev pub on-side : Side → ℕ
-  on-side o = crossedOn (line s o) (rest (ray s) o) (fromOf s) (toOf s)
-
   module _ {w : Walk} {at : Side → ℕ} (on : Walking s w at) (b : w .t < toOf s) (h : toOf s ≤ soonest w) where
     -- the last voxel is that of the last tick
     last-within : (o : Side) → Within (line s o) (rest (ray s) o) (toOf s - 1) (at o)
@@ -89,9 +89,9 @@ module _ {s : Scene} (able : Able s) {t : Strides} (paced : Paced s t) where
     since-first : fromOf s < toOf s
     since-first = omega (arith, start-late s (number (vol s) at) (here-below able on), here-start able on)
 
-    all-sides : between (on .first) at ≡ on-side X + on-side Y + on-side Z
+    all-sides : between (on .first) at ≡ crossedBy s X + crossedBy s Y + crossedBy s Z
     all-sides =
-        let one : (o : Side) → gap (on .first) at o ≡ on-side o = λ o. crossed-is (line s o) (rest (ray s) o) (able .sized o) (fromOf s) (toOf s) (on .first o) (at o) (on .began o) (last-within o) since-first in
+        let one : (o : Side) → gap (on .first) at o ≡ crossedBy s o = λ o. crossed-is (line s o) (rest (ray s) o) (able .sized o) (fromOf s) (toOf s) (on .first o) (at o) (on .began o) (last-within o) since-first in
         omega (arith, one X, one Y, one Z)
 
   module _ {w : Walk} {at : Side → ℕ} (on : Walking s w at) (f : Forward t (toOf s) w) where
@@ -114,5 +114,5 @@ module _ {s : Scene} (able : Able s) {t : Strides} (paced : Paced s t) where
         (λ w at on b h. omega arith) (λ w at on h es rest. adds-up (toOf s) (w .t) (soonest w) _ _ (soon-later able on) h (step-tick t w) rest) on f
 
     -- the planes crossed before the last entry are those between αmin and αmax
-    pub found-planes : planesBy 0 (entries t (toOf s) w) ≡ on-side X + on-side Y + on-side Z
-    found-planes = walk-all (λ w es. (n : ℕ) → planesBy n es ≡ on-side X + on-side Y + on-side Z) (λ w at on b h n. planes-kept able on ∙ all-sides on b h) (λ w at on h es rest n. rest _) on f 0
+    pub found-planes : planesBy 0 (entries t (toOf s) w) ≡ crossedBy s X + crossedBy s Y + crossedBy s Z
+    found-planes = walk-all (λ w es. (n : ℕ) → planesBy n es ≡ crossedBy s X + crossedBy s Y + crossedBy s Z) (λ w at on b h n. planes-kept able on ∙ all-sides on b h) (λ w at on h es rest n. rest _) on f 0

@@ -30,7 +30,9 @@ counted-planes number planes h = add-mul-div-left number planes {y = 2 ^ 32} (om
 
 jump : (w : Way) (unit x base i k : ℕ) → Jump w unit x → Left w i → base + i * unit + unit + 2 ^ 32 * (k + 1) < 2 ^ 64
     → (counted (base + i * unit) k + x) % 2 ^ 64 ≡ counted (base + onward w i * unit) (k + 1)
-jump up unit x base i k j l h = let e : counted (base + i * unit) k + x ≡ counted (base + (i + 1) * unit) (k + 1) = omega (arith, add-mul i 1 unit, one-mul unit) in rw e (mod-eq-of-lt (omega (arith, add-mul i 1 unit, one-mul unit)))
+jump up unit x base i k j l h =
+    let e : counted (base + i * unit) k + x ≡ counted (base + (i + 1) * unit) (k + 1) = omega (arith, add-mul i 1 unit, one-mul unit) in
+    rw e (mod-eq-of-lt (omega (arith, add-mul i 1 unit, one-mul unit)))
 jump down unit x base zero k j l h = absurd (omega arith)
 jump down unit x base (suc i) k j l h =
     let back : suc i - 1 ≡ i = omega arith in
@@ -55,7 +57,7 @@ by-side v at X = omega arith
 by-side v at Y = omega (arith, add-mul (at Z * v Y .n) (at Y) (v X .n), mul-assoc (at Z) (v Y .n) (v X .n))
 by-side v at Z = omega (arith, add-mul (at Z * v Y .n) (at Y) (v X .n), mul-assoc (at Z) (v Y .n) (v X .n))
 
--- numbers lie far below 2^64
+-- numbers lie far below 2^32
 module _ (v : Volume) (few : (o : Side) → v o .n ≤ 2 ^ 9) where
   pub unit-small : (o : Side) → unit v o ≤ 2 ^ 18
   unit-small = each _ (omega arith) (omega (arith, few X)) (mul-le-mul {n₂ = 2 ^ 9} {m₂ = 2 ^ 9} (few Y) (few X))

@@ -1,5 +1,5 @@
 -- Two answers allowed by a promise are equal, and so are the lists it leaves. A promise that is one equation is a case of `once`; here stand
--- the functions that tracing calls. Assumes nothing.
+-- the functions below the one call. Assumes nothing.
 use Prim.Native.Nat.{ℕ}
 use mathlib.Core.Path.{_≡_}
 use mathlib.Core.List.{List}

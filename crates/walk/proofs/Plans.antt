@@ -1,5 +1,5 @@
 -- A plan of a scene that is hit: its walk is walking, and so its entries are the list. Assumes nothing.
-use Prim.Native.Nat.{ℕ, _+_, _-_, _*_, _^_, _≤_, _<_, min}
+use Prim.Native.Nat.{ℕ, _+_, _*_, _^_, _≤_, _<_, min}
 use mathlib.Core.Path.{_≡_, refl, sym, ap, _∙_}
 use mathlib.Core.Bool.{true, false, _||_, not}
 use mathlib.Core.List.{map}
@@ -16,7 +16,7 @@ use Rattle.ray.proofs.Way.{Way, up, down, still, Goes}
 use Rattle.line.specs.declared.line.Line.{Line}
 use Rattle.line.specs.declared.scene.Scene.{Scene}
 use Rattle.line.specs.Scene.{line, volumeOf, rayOf, Sized, Able, leavesAt, heldAt, Window, Within}
-use Rattle.line.specs.Reach.{leftAt, crossedOn}
+use Rattle.line.specs.Reach.{leftAt}
 use Rattle.line.specs.Beyond.{Stretch}
 use Rattle.line.proofs.Three.{each, most-le, le-most, least-le, most-mono}
 use Rattle.line.proofs.Stretch.{going, enter-whole}
@@ -33,7 +33,7 @@ use Rattle.walk.specs.Model.{jumpOf, Forward}
 use Rattle.walk.specs.Plan.{restOf, Framed, unit, Strided, planeOf, Facing, Begun, Planned}
 use Rattle.walk.proofs.Hops.{Jump, unit-small}
 use Rattle.walk.proofs.Walking.{Paced, Inside, onward-none, Walking, under-least, cut-le, soon-later}
-use Rattle.walk.proofs.Found.{found-list, found-parts, on-side, found-planes}
+use Rattle.walk.proofs.Found.{crossedBy, found-list, found-parts, found-planes}
 
 jump-by : (w : Way) (p q u x : ℕ) → Goes w p q → (p < q → x ≡ 2 ^ 32 + u) → (q ≤ p → x + u ≡ 2 ^ 32) → Jump w u x
 jump-by up p q u x g a b = a g
@@ -45,11 +45,9 @@ carried : {a : Line} {c d t u i : ℕ} → c ≡ d → u ≡ t → Within a c t 
 carried e k v = rw (k, ← e) v
 
 -- the planes crossed, axis by axis
-pub crossed-all : {s : Scene} {f : Frame} (n : Side → ℕ) → Framed s f → f .hit ≡ true → ((o : Side) → n o ≡ crossedOn (line s o) (restOf f o) (f .from) (f .to))
-    → n X + n Y + n Z ≡ crossedOf (volumeOf s) (rayOf s)
+pub crossed-all : (s : Scene) → misses (volumeOf s) (rayOf s) ≡ false → crossedBy s X + crossedBy s Y + crossedBy s Z ≡ crossedOf (volumeOf s) (rayOf s)
 unfolding crosses crossedOf
-crossed-all {s} n framed hit e =
-    rw (e X, e Y, e Z, framed .rests X, framed .rests Y, framed .rests Z, framed .from-is, framed .to-is, not-true (misses (volumeOf s) (rayOf s)) (sym (framed .hit-is) ∙ hit)) refl
+crossed-all s hit = rw hit refl
 
 module _ {s : Scene} (able : Able s) where
   factor-few : (o : Side) → factor (leg (rayOf s) o) ≤ 2 ^ 20
@@ -163,5 +161,5 @@ module _ {s : Scene} (able : Able s) where
                 forward = forward;
                 voxels-are = rw (framed .to-is) vs;
                 parts-are = rw (framed .to-is) (found-parts able paced walking f′ ∙ ap (map (partOf (volumeOf s) (rayOf s))) vs);
-                crossed-is = rw (framed .to-is) (found-planes able paced walking f′) ∙ crossed-all (on-side able paced) framed hit (λ o. rw (framed .rests o, framed .from-is, framed .to-is) refl);
+                crossed-is = rw (framed .to-is) (found-planes able paced walking f′) ∙ crossed-all s (not-true _ (sym (framed .hit-is) ∙ hit));
               }

@@ -2,7 +2,7 @@
 -- ray's definitions, with no walk in the statement; and on its way the ray crosses fewer planes of an axis than there are voxels.
 -- Assumes nothing.
 use Prim.Native.Nat.{ℕ, _+_, _-_, _*_, _^_, _≤_, _<_}
-use mathlib.Core.Path.{_≡_, refl}
+use mathlib.Core.Path.{_≡_, refl, ap, _∙_}
 use mathlib.Core.Bool.{true, false, not, cond}
 use native.Mathlib.Omega.{arith}
 use lib.Dec.{ltb}
@@ -22,6 +22,7 @@ use Rattle.walk.specs.declared.plan.Frame.{Frame}
 use Rattle.walk.specs.Model.{Forward}
 use Rattle.walk.specs.Plan.{restOf, Framed, unit, Strided, Begun}
 use Rattle.walk.proofs.Walking.{Paced, Walking}
+use Rattle.walk.proofs.Found.{crossedBy}
 use Rattle.walk.proofs.Plans.{unit-few, few, windows, proper, walking, paced, forward, crossed-all}
 
 pub record SetOut (s : Scene) : Type 0 where
@@ -117,18 +118,16 @@ module _ {s : Scene} (able : Able s) where
     }
 
     -- ---- between the voxel that the ray comes in by and the one it goes out by, an axis has fewer planes than voxels
-    abbrev on : Side → ℕ
-    on o = crossedOn (line s o) (restOf (frame s) o) (frame s .from) (frame s .to)
-
     apart : (i j k n : ℕ) → i < n → j < n → (i - j) + (j - i) ≡ k → k + 1 ≤ n
     apart i j k n a b e = omega arith
 
-    on-few : (o : Side) → on o + 1 ≤ line s o .n
+    on-few : (o : Side) → crossedBy s o + 1 ≤ line s o .n
     on-few o =
         let some = from-to in
         let last = voxel (frame s .to - 1) (omega arith) (omega arith) o .1 in
-        apart _ _ (on o) (line s o .n) (first-within o .inside) (last .inside)
-        (crossed-is (line s o) (restOf (frame s) o) (able .sized o) (frame s .from) (frame s .to) _ _ (first-within o) last some)
+        apart _ _ (crossedBy s o) (line s o .n) (first-within o .inside) (last .inside)
+        (crossed-is (line s o) (restOf (frame s) o) (able .sized o) (frame s .from) (frame s .to) _ _ (first-within o) last some
+        ∙ ap (λ (c : ℕ). crossedOn (line s o) c (fromOf s) (toOf s)) (framed s .rests o))
 
     pub few-planes : crossedOf (volumeOf s) (rayOf s) + 3 ≤ s .x .n + s .y .n + s .z .n
-    few-planes = omega (arith, on-few X, on-few Y, on-few Z, crossed-all on (framed s) hits (λ o. refl))
+    few-planes = omega (arith, on-few X, on-few Y, on-few Z, crossed-all s hit)

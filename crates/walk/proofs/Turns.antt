@@ -1,4 +1,4 @@
--- The model's entries, turn by turn, and what a loop that makes them keeps. Assumes nothing.
+-- The model's entries, turn by turn, and what a loop that counts them keeps. Assumes nothing.
 use Prim.Native.Nat.{ℕ, zero, suc, _+_, _-_, _^_, _%_, _≤_, _<_}
 use mathlib.Core.Path.{_≡_, refl, ap, _∙_}
 use mathlib.Core.Bool.{Bool, true, false, cond}

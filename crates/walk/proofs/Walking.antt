@@ -1,5 +1,5 @@
 -- What is known of the walk at each turn: on every axis it is in a voxel of the array, since a tick not later than now and until a
--- tick later than now, and on one axis since now. Assumes nothing.
+-- tick later than now, and on one axis since now; and the planes from its first voxel are counted. Assumes nothing.
 use Prim.Native.Nat.{ℕ, _+_, _-_, _/_, _%_, _^_, _≤_, _<_, min}
 use mathlib.Core.Path.{_≡_, refl, sym, ap, subst, _∙_}
 use mathlib.Core.Bool.{Bool, true, false, cond}
@@ -22,7 +22,7 @@ use Rattle.walk.specs.Plan.{unit}
 use Rattle.walk.proofs.Hops.{Jump, counted, counted-number, counted-planes, number-small, all-over}
 use Rattle.walk.proofs.Turns.{step-tick, step-leave}
 
--- the strides are those of the scene: from a voxel to the next the leave tick grows by the stride, and the number by the jump
+-- the strides are those of the scene: from a voxel to the next the leave tick grows by the stride, and v by the jump
 pub record Paced (s : Scene) (t : Strides) : Type 0 where
   pub ticks : (o : Side) (i : ℕ) → Left (way s o) i → 0 < leave s o i (i + 1) → leave s o (onward (way s o) i) (onward (way s o) i + 1) ≡ leave s o i (i + 1) + stepOf t o
   pub jumps : (o : Side) → Jump (way s o) (unit (vol s) o) (jumpOf t o)

@@ -34,7 +34,7 @@ soonest w = min (w .x) (min (w .y) (w .z))
 abbrev pub next : Strides → Walk → Side → ℕ
 next s w o = leaveOf w o + stepOf s o
 
--- a leave tick, and the voxel's number, where a side is left at u
+-- a leave tick, and v, where a side is left at u
 abbrev pub further : Strides → Walk → ℕ → Side → ℕ
 further s w u o = cond (eqb (leaveOf w o) u) (next s w o) (leaveOf w o)
 

@@ -11,11 +11,11 @@ use Rattle.walk.specs.declared.call.Walked.{Walked}
 use Rattle.walk.specs.declared.entries.Tally.{Tally}
 use Rattle.walk.specs.Model.{Entry, voxels, parts, tallyOf}
 
--- one of two, by whether a list goes into so many places
+-- the first of two where a list goes into so many places, else the second
 abbrev pub ifRoom : {A B : Type 0} → List A → ℕ → B → B → B
 ifRoom new room there short = cond (leb (length new) room) there short
 
--- without room for the list nothing is walked but to count it: then no plane and no sum is told
+-- planes and sum are told only where there is room for the list
 abbrev pub walkedOf : Volume → Ray → List ℕ → ℕ → Walked
 walkedOf v r densities room = record {
   entries = length (listOf v r);

@@ -6,7 +6,8 @@ ghost use Rattle.walk.specs.Model.{stepped};
 use std::num::wrapping_add_u64;
 
 // Where the walk is since the tick t, and the ticks at which it leaves its voxel on each axis. v is the voxel's number, and 2^32 for
-// each plane crossed since the walk began: the brackets of equation (9), without the planes met at αmin or αmax itself.
+// each plane crossed since the walk began: in the last voxel that is the brackets of equation (9), without the planes met at αmin or
+// αmax itself.
 pub struct Walk {
     pub x: u64,
     pub y: u64,

@@ -1,9 +1,9 @@
+use Prim.Native.Nat.{_<_}
 use mathlib.Core.Path.{refl, sym, _∙_}
 use mathlib.Core.Logic.{⊎-elim}
 use native.Mathlib.Omega.{arith}
-use Rattle.tracing.specs.Answer.{lists, lent}
-use Prim.Native.Nat.{_<_}
 use lib.ListN.{length}
+use Rattle.tracing.specs.Answer.{lists, lent}
 use Rattle.tracing.proofs.Accepting.{stopped, accepted, no-room}
 use Rattle.tracing.proofs.Answering.{refuses}
 use Rattle.tracing.proofs.Appending.{tail-answers}

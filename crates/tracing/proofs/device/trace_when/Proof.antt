@@ -15,13 +15,12 @@ use Rattle.tracing.specs.Answer.{Lists, lists, lent, codeOf}
 use Rattle.tracing.specs.Inside.{Suited, Accepted}
 use Rattle.tracing.proofs.Accepting.{stopped, accepted, no-room, free-code}
 use Rattle.tracing.proofs.Counted.{d-small}
-use Rattle.tracing.proofs.Summing.{both-put, both-kept, both-nowhere, all-told}
+use Rattle.tracing.proofs.Fitting.{both-put, both-kept, both-nowhere, all-told}
 use Rattle.tracing.proofs.Answering.{accepts, refuses-when, accepts-when, asks-when, able-so, d-so, count-so, walked-so, fitted-so}
 use borrow.Author.Needs.{needs}
 use Rattle.tracing.proofs.device.trace_when.Statement.{statement}
 use Rattle.tracing.proofs.device.trace_when.Tie as tie
 
--- the places that may be used
 few : (ready : Bool) (n : ℕ) → cond ready n 0 ≤ n
 few true n = omega arith
 few false n = omega arith
@@ -52,22 +51,30 @@ module _ (c : tie.Else1) where
   ok : Accepted m g r (lent l)
   ok = accepted m g r (lent l) front
 
+-- the places that may be used
+module _ (c : tie.After-room-of) where
+  abbrev before-scene : tie.Else1
+  before-scene = c .before .before
+
+  room-few : c .room-of .result ≤ length (l before-scene .voxels)
+  room-few = omega (arith, c .room-of .ensures, few (start before-scene .args .ready) (length (l before-scene .voxels)))
+
 -- the walk, read off the grid and the ray
 module _ (c : tie.After-walk) where
+  abbrev roomed : tie.After-room-of
+  roomed = c .before .before .before
+
   abbrev k : tie.Else1
-  k = c .before .before .before .before .before
+  k = before-scene roomed
 
   abbrev room : ℕ
-  room = c .before .before .before .room-of .result
-
-  room-few : room ≤ length (l k .voxels)
-  room-few = omega (arith, c .before .before .before .room-of .ensures, few (start k .args .ready) (length (l k .voxels)))
+  room = roomed .room-of .result
 
   walked : c .walk .result ≡ walkedOf (volume (g k)) (r k) (l k .densities) room
-  walked = walked-so (m k) (suited k .small) (g k) (r k) (lent (l k)) (ok k) _ (c .before .before .before .before .scene-of .ensures) _ _ (c .walk .ensures .0)
+  walked = walked-so (m k) (suited k .small) (g k) (r k) (lent (l k)) (ok k) _ (roomed .before .scene-of .ensures) _ _ (c .walk .ensures .0)
 
   fit : Fitted (volume (g k)) (r k) room (c .walk .last .1 .1 .1 .0) (c .walk .last .1 .1 .1 .1 .0) (l k .voxels) (l k .parts)
-  fit = fitted-so (m k) (suited k .small) (g k) (r k) (lent (l k)) (ok k) _ (c .before .before .before .before .scene-of .ensures) (c .walk .ensures .1)
+  fit = fitted-so (m k) (suited k .small) (g k) (r k) (lent (l k)) (ok k) _ (roomed .before .scene-of .ensures) (c .walk .ensures .1)
 
   number : c .walk .result .entries ≡ length (listOf (volume (g k)) (r k))
   number = ap (λ (w : Walked). w .entries) walked
@@ -93,14 +100,14 @@ room-of-requires c κs = search needs
 
 walk-requires : tie.Need-walk-requires
 walk-requires c κs =
-    let k = c .before .before .before .before in
-    let at = c .before .before .before .scene-of .ensures in
-    let fits : c .before .before .room-of .result ≤ length (l k .voxels) = omega (arith, c .before .before .room-of .ensures, few (start k .args .ready) (length (l k .voxels))) in (
+    let e = c .before .before in
+    let k = before-scene e in
+    let at = e .before .scene-of .ensures in (
       (
         able-so (m k) (suited k .small) (g k) (r k) (lent (l k)) (ok k) _ at,
         omega (arith, d-so (m k) (suited k .small) (g k) (r k) (lent (l k)) (ok k) _ at, d-small (m k) (suited k) (g k) (r k) (ok k .grid) (ok k .ends)),
       ),
-      (ok k .densities-are ∙ sym (count-so (m k) (suited k .small) (g k) (r k) (lent (l k)) (ok k) _ at), (fits, omega (arith, ok k .lists-are))),
+      (ok k .densities-are ∙ sym (count-so (m k) (suited k .small) (g k) (r k) (lent (l k)) (ok k) _ at), (room-few e, omega (arith, room-few e, ok k .lists-are))),
     )
 
 refusal-requires-2 : tie.Need-refusal-requires-2
@@ -115,9 +122,11 @@ same-length-2 c = search needs
 returns-2 : tie.Need-returns-2
 returns-2 c =
     let w = c .before .before .before .before .before .before .before .before in
+    let at = k w in
     let short = c .before .if2 .taken in
-    let old = both-kept (fit w) (omega (arith, room-few w, number w)) in
-    refuses-when (m (k w)) (g (k w)) (r (k w)) (l (k w)) (start (k w) .args .ready) 8 (no-room (m (k w)) (g (k w)) (r (k w)) (lent (l (k w))) (front (k w)) (omega (arith, number w, short))) (λ z. omega arith) (c .refusal2 .ensures) (old .0) (old .1)
+    let old = both-kept (fit w) (omega (arith, room-few (roomed w), number w)) in
+    refuses-when (m at) (g at) (r at) (l at) (start at .args .ready) 8 (no-room (m at) (g at) (r at) (lent (l at)) (front at) (omega (arith, number w, short))) (λ z. omega arith)
+    (c .refusal2 .ensures) (old .0) (old .1)
 
 same-length-3 : tie.Need-same-length-3
 same-length-3 c = search needs
@@ -135,12 +144,13 @@ module _ (c : tie.Else2) where
 
 returns-3 : tie.Need-returns-3
 returns-3 c =
-    let room-is : room (w (c .before)) ≡ length (l (k (w (c .before))) .voxels) = w (c .before) .before .before .before .room-of .ensures ∙ ap (λ (b : Bool). cond b (length (l (k (w (c .before))) .voxels)) 0) (c .if3 .taken) in
-    let fits : length (listOf (volume (g (k (w (c .before))))) (r (k (w (c .before))))) ≤ room (w (c .before)) = omega (arith, room-is, number (w (c .before)), c .before .if2 .left) in
-    let new = both-put (fit (w (c .before))) fits in
-    let at = k (w (c .before)) in
+    let v = w (c .before) in
+    let at = k v in
+    let room-is : room v ≡ length (l at .voxels) = roomed v .room-of .ensures ∙ ap (λ (b : Bool). cond b (length (l at .voxels)) 0) (c .if3 .taken) in
+    let fits : length (listOf (volume (g at)) (r at)) ≤ room v = omega (arith, room-is, number v, c .before .if2 .left) in
+    let new = both-put (fit v) fits in
     accepts-when (m at) (g at) (r at) (l at) (c .if3 .taken)
-    (accepts (m at) (g at) (r at) (l at) (free (c .before)) (all-told (volume (g at)) (r at) (l at .densities) _ _ (walked (w (c .before))) fits) (new .0) (new .1))
+    (accepts (m at) (g at) (r at) (l at) (free (c .before)) (all-told (volume (g at)) (r at) (l at .densities) _ _ (walked v) fits) (new .0) (new .1))
 
 refusal-requires-3 : tie.Need-refusal-requires-3
 refusal-requires-3 c κs = search needs
@@ -155,7 +165,7 @@ returns-4 : tie.Need-returns-4
 returns-4 c =
     let v = w (c .before .before) in
     let at = k v in
-    let old = both-nowhere (fit v) (v .before .before .before .room-of .ensures ∙ ap (λ (b : Bool). cond b (length (l at .voxels)) 0) (c .before .if3 .left)) in
+    let old = both-nowhere (fit v) (roomed v .room-of .ensures ∙ ap (λ (b : Bool). cond b (length (l at .voxels)) 0) (c .before .if3 .left)) in
     asks-when (m at) (g at) (r at) (l at) (c .before .if3 .left) (free (c .before .before)) (c .refusal3 .ensures) (old .0) (old .1)
 
 pub trace-when-spec : {M : Type 1} → statement M
