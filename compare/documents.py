@@ -19,7 +19,7 @@ from source import Item, Source, expanded, items, unused
 from tally import Tally
 
 PROMISES, DECISIONS, RULES, EQUATIONS = "docs/PROMISES.md", "docs/DECISIONS.md", "docs/RULES.md", "docs/EQUATIONS.md"
-DOCUMENTS = ("README.md", PROMISES, DECISIONS, "docs/PROVING.md", RULES, EQUATIONS)
+DOCUMENTS = ("README.md", PROMISES, DECISIONS, "docs/PROVING.md", "docs/SPEED.md", RULES, EQUATIONS)
 CUSTOMER = ("axis", "ray", "tracing", "place", "ilvoresta")  # the crates that a customer calls, beside job::whole
 
 TOKEN = re.compile(r"`([^`]+)`(:(?!:))?|\||[.!?](?=[\s)]|$)")
