@@ -1,4 +1,4 @@
-//! What both float methods begin with: the array in floats, and the way of a ray through it.
+//! What both float methods begin with: the array in floats, and the way of a ray through it. Equations are numbered as in Siddon's paper.
 use crate::scene::{Grid, Ray};
 
 /// A plane this close before αmax, or beyond it, is the face where the ray goes out. Rounding moves an α by less than a tenth of this.
@@ -70,8 +70,8 @@ impl Sides {
 }
 
 impl Side {
-    /// Without a branch on the direction, which no processor foresees. The choice of `still` comes last, or the axis is put together in
-    /// memory, where a short ray waits for the one before it.
+    /// Without a branch on the direction, which no processor foresees. The choice of `still` comes last, or the compiler builds the axis in
+    /// memory, and a short ray waits for that.
     #[inline(always)]
     fn axis(&self, p: i32, q: i32) -> Axis {
         let (from, step) = (f64::from(p), f64::from(q - p));
@@ -108,7 +108,8 @@ impl Axis {
     #[inline(always)]
     pub fn index(&self, alpha: f64) -> u32 {
         let past = least((alpha - self.near) * self.rate, self.last);
-        // SAFETY: αmin is not before the near face, so this is from 0 to the last voxel. A checked cast costs the merge a sixth.
+        // SAFETY: `least` leaves nothing above the last voxel, and no NaN; α is before the near face by rounding at most, so this is above
+        // -1 and is cut to 0. A checked cast costs the merge a sixth.
         unsafe { past.to_int_unchecked::<i32>() as u32 }
     }
 

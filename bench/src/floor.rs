@@ -1,4 +1,4 @@
-//! The floor: the time to read the densities of voxels that are known already. No trace that sums densities takes less.
+//! The floor: the time to read the densities of voxels that are known already, about the least that a trace which sums them takes.
 use crate::proved::Proved;
 use crate::scene::{Method, Ray};
 use std::hint::black_box;

@@ -1,4 +1,5 @@
-//! The incremental walk of Jacobs and others in 64-bit floats: from one plane to the next, with no arrays of α.
+//! The incremental walk of Jacobs and others in 64-bit floats: from one plane to the next, with no arrays of α. Equations are numbered
+//! as in their paper.
 use crate::first::{over_first, Ahead};
 use crate::floats::{Axis, Sides, Way};
 use crate::lists::Lists;

@@ -17,7 +17,8 @@ exchange-requires-3 c κs = search needs
 returns : tie.Need-returns
 returns c =
     let p = c .before .before .before .before .before .before .before .before .args .p in
-    in-order (track p X) (track p Y) (track p Z) (p .walk .v) (p .walk .t) (c .before .before .before .before .before .exchange .ensures) (c .before .before .before .before .exchange2 .ensures) (c .before .before .exchange3 .ensures)
+    in-order (track p X) (track p Y) (track p Z) (p .walk .v) (p .walk .t)
+    (c .before .before .before .before .before .exchange .ensures) (c .before .before .before .before .exchange2 .ensures) (c .before .before .exchange3 .ensures)
 
 pub ordered-spec : {M : Type 1} → statement M
 ordered-spec =

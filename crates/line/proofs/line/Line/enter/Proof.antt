@@ -23,7 +23,8 @@ returns-2 c = λ rest.
     let q = s .args .self .q in
     let lo = s .args .lo in
     let hi = s .args .hi in
-    aimed-is p q lo hi (λ n. n * rest) (c .before .either .ensures) (c .run .ensures) (λ g. enters-is up p q lo hi rest g (s .pre)) (λ g. enters-is down p q lo hi rest (omega (arith, c .before .before .before .if1 .left)) (s .pre))
+    aimed-is p q lo hi (λ n. n * rest) (c .before .either .ensures) (c .run .ensures)
+    (λ g. enters-is up p q lo hi rest g (s .pre)) (λ g. enters-is down p q lo hi rest (omega (arith, c .before .before .before .if1 .left)) (s .pre))
 
 pub enter-spec : {M : Type 1} → statement M
 enter-spec = tie.close (tie.spec returns either-requires run-requires returns-2)

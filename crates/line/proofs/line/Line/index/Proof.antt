@@ -66,7 +66,8 @@ least-requires c κs = search needs
 returns : tie.Need-returns
 returns c =
     let s = c .before .before .before .before .before .before in
-    let e : c .least .result ≡ i s = c .least .ensures ∙ rw (c .before .before .quotient-near .ensures, c .before .before .before .before .before .spot .ensures .0) (middle-is (a s) (s .pre .0 .0) (s .args .c) (s .args .from) (s .args .next) (within s) (s .pre .1 .some) (until s)) in
+    let e : c .least .result ≡ i s = c .least .ensures ∙ rw (c .before .before .quotient-near .ensures, c .before .before .before .before .before .spot .ensures .0)
+    (middle-is (a s) (s .pre .0 .0) (s .args .c) (s .args .from) (s .args .next) (within s) (s .pre .1 .some) (until s)) in
     rw e (within s)
 
 pub index-spec : {M : Type 1} → statement M
