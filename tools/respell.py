@@ -78,8 +78,8 @@ def respelled(names):
         if re.fullmatch(r"returns-\d+|.*-requires(-\d+)?", name):
             continue
         if name in TYPES:
-            new[name] = TYPES[name]
-        elif name in CHOSEN:
+            continue
+        if name in CHOSEN:
             new[name] = CHOSEN[name]
         elif not name[0].isupper() and snake(name) != name:
             new[name] = snake(name)
@@ -132,6 +132,24 @@ def in_ticks(text, new):
     return re.sub(r"`[^`\n]+`", lambda m: turned(m.group(0), new, {}, False), text)
 
 
+def typed(text):
+    """Facts of lower case, in a file that defines or imports one: not a field, a label or the variable of a clause."""
+    for old, new in TYPES.items():
+        defines = re.search(rf"^abbrev pub {old} :.*Type 0$", text, re.M)
+        imports = re.search(rf"^(?:ghost )?use Rattle\.\w+\.(?:specs|proofs)\.\w+\.\{{[^}}]*\b{old}\b[^}}]*\}}", text, re.M)
+        if not defines and not imports:
+            continue
+        lines = []
+        for line in text.split("\n"):
+            if re.match(rf"^(?:abbrev pub )?{old}\b", line):
+                line = re.sub(rf"^((?:abbrev pub )?){old}\b", rf"\1{new}", line)
+            elif not line.lstrip().startswith("--"):
+                line = re.sub(rf"(?<![.\w'-])(?<!ensures ){old}(?![\w'-])(?! *[=:])", new, line)
+            lines.append(line)
+        text = "\n".join(lines)
+    return text
+
+
 def write(path, text, before):
     if text != before:
         with open(path, "w", encoding="utf-8") as f:
@@ -152,7 +170,7 @@ def main():
     steps = words_of_src()
     for path in sources("antt", "rt", "edit"):
         text = read(path)
-        write(path, turned(text, new, steps), text)
+        write(path, typed(turned(text, new, steps)), text)
     for path in ["README.md"] + sorted(glob.glob("docs/**/*.md", recursive=True)):
         text = read(path)
         write(path, in_ticks(text, new), text)

@@ -25,8 +25,8 @@ fn grid_of(x: Axis, y: Axis, z: Axis) -> u32 {
 
 // The code of a grid whose last axis alone is out of the ordinary.
 fn last_of(n: u32, d: u32, b: i32) -> u32 {
-    let Plain = Axis { n: 1, d: 1, b: 0 };
-    grid_of(Plain, Plain, Axis { n, d, b })
+    let plain = Axis { n: 1, d: 1, b: 0 };
+    grid_of(plain, plain, Axis { n, d, b })
 }
 
 // The code of the ends (0, 0, 0) and (0, 0, z).

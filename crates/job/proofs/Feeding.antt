@@ -35,32 +35,32 @@ module _ (p : Pumped) (piece out : ℕ) (fits : p.moved.at ≤ out) where
 
 -- The piece is taken from `from` on and answered from the start of the output. Until a byte is taken, all is as it was.
 pub record Feeding (st : State) (from : ℕ) (piece : List ℕ) (k₀ : Held) (p : Pumped) (k : Held) : Type 0 where
-  pub Kept : AsLong k₀ k
+  pub kept : AsLong k₀ k
   pub taken : Pumping st 0 from piece k₀ p k
   pub first : from ≡ p.next → (p.moved.going ≡ true) × (p.moved.at ≡ 0)
 
 module _ {st : State} {from : ℕ} {piece : List ℕ} {k₀ : Held} where
   pub feed_begins : Sound st → Begun st.have k₀.line → from ≤ length piece → Feeding st from piece k₀ (starting st 0 from) k₀
   feed_begins s b h = record {
-    Kept = as_long;
+    kept = as_long;
     taken = record { sound = s; begun = b; lines = omega arith; counted = omega arith; room = omega arith; back = omega arith; within = h; same = λ later. refl };
     first = λ e. (refl, refl);
   }
 
   module _ {k : Held} {p : Pumped} (f : Feeding st from piece k₀ p k) where
     pub room_now : p.moved.at ≤ length k.out
-    room_now = omega (arith, f.taken.room, f.Kept.out)
+    room_now = omega (arith, f.taken.room, f.kept.out)
 
     pub feed_on : {q : Pumped} {k' : Held} → p.moved.going ≡ true → p.next < q.next → AsLong k k'
         → Pumping p.moved.state p.moved.at p.next piece k q k' → Feeding st from piece k₀ q k'
     feed_on e on l h = record {
-      Kept = still f.Kept l;
+      kept = still f.kept l;
       taken = record {
         sound = h.sound;
         begun = h.begun;
         lines = omega (arith, f.taken.lines, h.lines);
         counted = omega (arith, f.taken.counted, h.counted);
-        room = omega (arith, h.room, f.Kept.out);
+        room = omega (arith, h.room, f.kept.out);
         back = omega (arith, f.taken.back);
         within = h.within;
         same = λ later. f.taken.same later ∙ rw e (h.same later);

@@ -79,10 +79,10 @@ module _ (begun here later : List ℕ) where
 
   pub line_turn : (s : Stand) (going : Bool) (o : List ℕ) (s' : Stand) (printed l rest : List ℕ) → until 10 l ≡ length l → begun ++ here ≡ l ++ (10 ∷ rest)
       → step_is going o s' ≡ sound.after printed (line_step s l) → printed ++ job_from s (begun ++ (here ++ later)) ≡ o ++ more going (job_from s' (rest ++ later))
-  line_turn s going o s' printed l rest Plain e f =
+  line_turn s going o s' printed l rest plain e f =
       let then : Stand → List ℕ = λ t. job_from t (rest ++ later) in
       ap (λ (b : List ℕ). printed ++ job_from s b) (on e ∙ append_assoc l (10 ∷ rest) later)
-      ∙ ap (λ (b : List ℕ). printed ++ b) (job_line s l (rest ++ later) Plain)
+      ∙ ap (λ (b : List ℕ). printed ++ b) (job_line s l (rest ++ later) plain)
       ∙ and_then_lem printed (line_step s l) then
       ∙ ap (λ (t : Step). and_then t then) (sym f)
       ∙ step_then going o s' then

@@ -18,12 +18,12 @@ use Rattle.job.specs.Rays.{RAY, traced, passed, figures, cell, cells, ray_text}
 pub record Printing (v : Volume) (voxels parts out₀ : List ℕ) (at : ℕ) (out : List ℕ) (e to : ℕ) : Type 0 where
   pub within : e ≤ length voxels
   pub room : to ≤ at + 89 * e
-  pub Kept : length out ≡ length out₀
+  pub kept : length out ≡ length out₀
   pub same : take at out₀ ++ cells v voxels parts ≡ take to out ++ cells v (drop e voxels) (drop e parts)
 
 module _ {v : Volume} {voxels parts out₀ : List ℕ} {at : ℕ} where
   pub cells_begin : Printing v voxels parts out₀ at out₀ 0 at
-  cells_begin = record { within = omega arith; room = omega arith; Kept = refl; same = refl }
+  cells_begin = record { within = omega arith; room = omega arith; kept = refl; same = refl }
 
   module _ {out : List ℕ} {e to : ℕ} (p : Printing v voxels parts out₀ at out e to) where
     pub cells_on : {out' : List ℕ} {to' : ℕ} → e < length voxels → e < length parts → to' ≤ to + 89 → length out' ≡ length out
@@ -32,7 +32,7 @@ module _ {v : Volume} {voxels parts out₀ : List ℕ} {at : ℕ} where
     cells_on h g r k w = record {
       within = omega arith;
       room = omega (arith, p.room);
-      Kept = k ∙ p.Kept;
+      kept = k ∙ p.kept;
       same = p.same ∙ rw (w, add-one, drop-cons voxels e 0, drop-cons parts e 0) (sym (append_assoc (take to out) _ _));
     }
 

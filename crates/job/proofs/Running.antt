@@ -72,7 +72,7 @@ module _ {st : State} {next : ℕ} {input : List ℕ} {k : Held} (counted : read
 
 -- ---- the loop
 pub record Running (text input : List ℕ) (k₀ : Held) (out₀ : List ℕ) (k : Held) (out : List ℕ) (st : State) (next to : ℕ) (going : Bool) : Type 0 where
-  pub Kept : AsLong k₀ k
+  pub kept : AsLong k₀ k
   pub out_kept : length out ≡ length out₀
   pub sound : Sound st
   pub begun : Begun st.have k.line
@@ -92,7 +92,7 @@ new_begun line h = record { short = omega arith; unended = rw h refl }
 pub run_begins : (input : List ℕ) (k : Held) (out : List ℕ) {st : State} → Sound st → read st ≡ 0 → st.have ≡ 0
     → Running (job_from (stand_of st k.densities) input) input k out k out st 0 0 true
 run_begins input k out {st} s r h = record {
-  Kept = as_long;
+  kept = as_long;
   out_kept = refl;
   sound = s;
   begun = new_begun k.line h;
@@ -137,7 +137,7 @@ module _ {text input out₀ out : List ℕ} {k₀ k : Held} {st : State} {next t
     pub run_on : {out' : List ℕ} {to' : ℕ} → AsLong k k' → length out' ≡ length out → take to' out' ≡ take to out ++ take p.moved.at k'.out → to' ≤ length out
         → Running text input k₀ out₀ k' out' p.moved.state p.next to' p.moved.going
     run_on l lo put fits = record {
-      Kept = still r.Kept l;
+      kept = still r.kept l;
       out_kept = lo ∙ r.out_kept;
       sound = t.sound;
       begun = t.begun;

@@ -46,12 +46,12 @@ module _ {st : State} {at from : ℕ} {piece line : List ℕ} {k : Held} where
     done : {m : Moved} {next : ℕ} {k' : Held} → Kept (with st 0) at m → read m.state + from ≤ read st + next → from ≤ next → next ≤ length piece
         → Alike piece (starting st at from) k (record { moved = m; next = next }) k' → Pumping st at from piece k (record { moved = m; next = next }) k'
     unfolding until
-    done Kept lines back within same = record {
-      sound = Kept.sound;
-      begun = record { short = omega (arith, Kept.have); unended = rw Kept.have refl };
+    done kept lines back within same = record {
+      sound = kept.sound;
+      begun = record { short = omega (arith, kept.have); unended = rw kept.have refl };
       lines = lines;
-      counted = omega (arith, Kept.have);
-      room = omega (arith, Kept.room, t.ready.room);
+      counted = omega (arith, kept.have);
+      room = omega (arith, kept.room, t.ready.room);
       back = back;
       within = within;
       same = same;
@@ -60,18 +60,18 @@ module _ {st : State} {at from : ℕ} {piece line : List ℕ} {k : Held} where
   pub answered : {len next : ℕ} {m : Moved} {densities out : List ℕ} → Turn st at from piece k (Line len next) line → Kept (with st 0) at m
       → came_to m out densities ≡ after (take at k.out) (line_step (stand_of st k.densities) (take len line))
       → Pumping st at from piece k (record { moved = m; next = next }) (held line densities out)
-  answered {len} {next} {m} {densities} {out} t Kept step =
+  answered {len} {next} {m} {densities} {out} t kept step =
       let w = t.parted in
-      done t Kept (omega (arith, Kept.lines, w.2)) (omega (arith, w.2)) w.3
+      done t kept (omega (arith, kept.lines, w.2)) (omega (arith, w.2)) w.3
       (λ later.
       line_turn (take st.have k.line) (drop from piece) later (stand_of st k.densities) m.going (take m.at out) (stand_of m.state densities)
       (take at k.out) (take len line) (drop next piece) (begun_plain w.0) w.1 step
-      ∙ rw Kept.have refl)
+      ∙ rw kept.have refl)
 
   pub refused : {m : Moved} {densities out : List ℕ} → Turn st at from piece k Long line → Kept (with st 0) at m → m.state ≡ with st 0 → m.going ≡ false
       → take m.at out ≡ take at k.out ++ bad_line (read st) 20 → Pumping st at from piece k (record { moved = m; next = length piece }) (held line densities out)
-  refused t Kept is g e =
-      done t Kept (omega (arith, t.within, ap read is)) t.within (omega arith)
+  refused t kept is g e =
+      done t kept (omega (arith, t.within, ap read is)) t.within (omega arith)
       (λ later. long_turn (take st.have k.line) (drop from piece) later (stand_of st k.densities) (take at k.out) _ t.parted g e)
 
   -- the piece is used up

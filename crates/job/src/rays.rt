@@ -114,7 +114,7 @@ fn put_ray(m: Limits, g: Grid, r: Ray, densities: &[u16], out: &mut [u8], at: us
 
 pub fn take_ray(st: State, line: &[u8], densities: &[u16], out: &mut [u8], at: usize) -> Moved
     requires { Sound st × Ready st at (length out.old) × (due st ≡ 2) × (4096 ≤ length densities.now) }
-    ensures Kept { Kept st at result }
+    ensures kept { Kept st at result }
     ensures densities_after { came_to result out.new densities.now ≡ after (take at out.old) (ray_step (stand_of st densities.now) (ray_in (split 9 line.now))) }
 {
     let read = ray_in(line);

@@ -20,7 +20,7 @@ pub const ROOM: usize = 53551;
 // Answers a line of at most 4096 bytes, its LF left out. A RAY line has seven fields.
 fn take_line(st: State, line: &[u8], densities: &mut [u16], out: &mut [u8], at: usize) -> Moved
     requires { Sound st × Ready st at (length out.old) × (4096 ≤ length densities.old) × (length line.now ≤ 4096) }
-    ensures Kept { Kept st at result }
+    ensures kept { Kept st at result }
     ensures densities_after { came_to result out.new densities.new ≡ after (take at out.old) (line_step (stand_of st densities.old) line.now) }
 {
     let load = st.load;

@@ -40,13 +40,13 @@ one_on x h = rw (ne_eqb x 10 h) refl
 pub record Cutting (before piece : List ℕ) (from : ℕ) (line₀ line : List ℕ) (i n : ℕ) : Type 0 where
   pub within : i ≤ length piece
   pub since : from ≤ i
-  pub Kept : length line ≡ length line₀
+  pub kept : length line ≡ length line₀
   pub begun : Begun n line
   pub same : before ++ drop from piece ≡ take n line ++ drop i piece
 
 module _ {piece : List ℕ} {from : ℕ} {line₀ : List ℕ} where
   pub cut_begins : {have : ℕ} → from ≤ length piece → Begun have line₀ → Cutting (take have line₀) piece from line₀ line₀ from have
-  cut_begins h b = record { within = h; since = omega arith; Kept = refl; begun = b; same = refl }
+  cut_begins h b = record { within = h; since = omega arith; kept = refl; begun = b; same = refl }
 
   module _ {before line : List ℕ} {i n : ℕ} (c : Cutting before piece from line₀ line i n) where
     pub cut_more : length piece ≤ i → CutInto (More n) before piece from line
@@ -64,11 +64,11 @@ module _ {piece : List ℕ} {from : ℕ} {line₀ : List ℕ} where
         pub cut_on : 4096 ≤ length line₀ → n < 4096 → Cutting before piece from line₀ (set line n (get_or piece i 0)) (i + 1) (n + 1)
         cut_on room g =
             let b = get_or piece i 0 in
-            let put : take (n + 1) (set line n b) ≡ take n line ++ b ∷ [] = one_put line n b (omega (arith, c.Kept)) in
+            let put : take (n + 1) (set line n b) ≡ take n line ++ b ∷ [] = one_put line n b (omega (arith, c.kept)) in
             record {
               within = omega arith;
               since = omega (arith, c.since);
-              Kept = length-set line n b ∙ c.Kept;
+              kept = length-set line n b ∙ c.kept;
               begun = record {
                 short = omega arith;
                 unended = ap (until 10) put ∙ until_behind 10 (take n line) (b ∷ []) (begun_plain c.begun) ∙ rw (one_on b on, begun_length c.begun) refl;

@@ -25,10 +25,10 @@ use Rattle.load.specs.Sound.{Sound, Kept}
 use Rattle.load.proofs.Cutting.{until_behind, begun_length, begun_plain}
 
 -- the bytes of a line that an answer speaks of: none where it is too long
-abbrev pub Standing : Cut → List ℕ → List ℕ
-Standing (Line len next) line = take len line
-Standing (More len) line = take len line
-Standing Long line = []
+abbrev pub standing : Cut → List ℕ → List ℕ
+standing (Line len next) line = take len line
+standing (More len) line = take len line
+standing Long line = []
 
 -- the answer, out of the line that has begun with the rest of the piece
 abbrev cut_of : (whole piece : List ℕ) → Cut
@@ -49,7 +49,7 @@ module _ (before piece : List ℕ) (from : ℕ) where
       let front : take (length begun) whole ≡ begun = ap (take (length begun)) e ∙ take-append_seam begun rest in
       (omega (arith, n, ap (until 10) e, until_behind 10 begun rest (begun_plain b)), omega (arith, n, ap length e, length-append begun rest), sym front ∙ ap (λ k. take k whole) n)
 
-  cut_is : (r : Cut) (line : List ℕ) → CutInto r before piece from line → (r ≡ cut_of whole piece) × (Standing r line ≡ Standing (cut_of whole piece) whole)
+  cut_is : (r : Cut) (line : List ℕ) → CutInto r before piece from line → (r ≡ cut_of whole piece) × (standing r line ≡ standing (cut_of whole piece) whole)
   unfolding until
   cut_is (Line len next) line (b, e, h, k) =
       let t = parted (10 ∷ drop next piece) b refl e in
@@ -60,7 +60,7 @@ module _ (before piece : List ℕ) (from : ℕ) where
       rw (t.0, le-ltb 4096 len b.short, le-ltb len (length whole) (omega (arith, t.1))) (refl, t.2)
   cut_is Long line h = rw (lt-ltb 4096 (until 10 whole) h) (refl, refl)
 
-  pub cut_once : (r r' : Cut) (line line' : List ℕ) → CutInto r before piece from line → CutInto r' before piece from line' → (r ≡ r') × (Standing r line ≡ Standing r' line')
+  pub cut_once : (r r' : Cut) (line line' : List ℕ) → CutInto r before piece from line → CutInto r' before piece from line' → (r ≡ r') × (standing r line ≡ standing r' line')
   cut_once r r' line line' x y = (once (cut_is r line x).0 (cut_is r' line' y).0, once (cut_is r line x).1 (cut_is r' line' y).1)
 
 -- a sound state is told by what is loaded: the lines that are left say how many densities are filled

@@ -25,7 +25,7 @@ fn store(row: &[u32], n: usize, densities: &mut [u16], at: usize)
 
 pub fn take_dens(st: Load, line: &[u8], densities: &mut [u16]) -> Took
     requires { Sound st × (0 < st.lines) × (0 < st.left) × (4096 ≤ length densities.old) }
-    ensures Kept { Kept st result }
+    ensures kept { Kept st result }
     ensures densities_after { reading_of st result densities.new ≡ dens_read (loaded_of st densities.old) (dens_in st.grid.x.n (split 9 line.now)) }
 {
     let x = st.grid.x;

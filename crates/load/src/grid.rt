@@ -69,7 +69,7 @@ fn taken_code(m: Limits, g: Grid) -> u32
 
 pub fn take_grid(st: Load, line: &[u8]) -> Took
     requires { Sound st × (st.lines ≡ 0) }
-    ensures Kept { Kept st result }
+    ensures kept { Kept st result }
     ensures by_index { (ds : List ℕ) → reading_of st result ds ≡ grid_read st.limits (grid_in (split 9 line.now)) }
 {
     let read = grid_in(line);

@@ -25,7 +25,7 @@ pub enum Took {
 // `word` and have `fields` fields.
 pub fn take_line(st: Load, line: &[u8], word: &[u8], fields: usize, densities: &mut [u16]) -> Took
     requires { Sound st × (4096 ≤ length densities.old) × (length line.now ≤ 4096) }
-    ensures Kept { Kept st result }
+    ensures kept { Kept st result }
     ensures densities_after { reading_of st result densities.new ≡ line_read word.now fields (loaded_of st densities.old) line.now }
 {
     let due = st.due();

@@ -50,7 +50,7 @@ pub record Drawn (g : Grid) (r : Ray) (t : ℕ) (p : Point) : Type 0 where
   pub low : (s : Side) → T (le (of_int binary64 (array (volume g) s).lo) (on p s))
   pub high : (s : Side) → T (le (on p s) (of_int binary64 (array (volume g) s).hi))
   pub whole : (s : Side) (c : ℤ) → exactly (leg r s) t (d_of r) ≡ c *ℤ pos (d_of r) → on p s ≡ of_int binary64 c
-  pub Plain : (s : Side) → ZeroPlain (on p s)
+  pub plain : (s : Side) → ZeroPlain (on p s)
 
 by_axes : (r : Ray) (t d : ℕ) (s : Side) → on (point_at r t d) s ≡ coordinate (leg r s) t d
 by_axes r t d X = refl
@@ -104,7 +104,7 @@ module _ (m : Limits) (g : Grid) (r : Ray) where
         low = λ o. rw (by_axes r t (d_of r) o) (in_planes o).0;
         high = λ o. rw (by_axes r t (d_of r) o) (in_planes o).1;
         whole = λ o c h. by_axes r t (d_of r) o ∙ exact (exactly (leg r o) t (d_of r)) c (d_of r) (d_pos r) h;
-        Plain = λ o. rw (by_axes r t (d_of r) o) (coordinate_plain m (leg r o) (ends_inside m r H.ok.ends o) f t (d_of r) most F);
+        plain = λ o. rw (by_axes r t (d_of r) o) (coordinate_plain m (leg r o) (ends_inside m r H.ok.ends o) f t (d_of r) most F);
       }
 
       short_point : point_at r f.num f.den ≡ point_at r t (d_of r)

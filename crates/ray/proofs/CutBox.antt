@@ -75,8 +75,8 @@ module _ {of : ℕ → ℕ} {r t : Ray} (piece : Piece of r t) where
     pub size_pos : 0 < of (d_of r)
     size_pos = rw size_side (mul-pos (factor_pos (leg t s)) (rest_pos r s))
 
-  Alike : Alike (λ x. x * of (d_of r)) (λ x. of x * d_of t) r t
-  Alike = record {
+  alike : Alike (λ x. x * of (d_of r)) (λ x. of x * d_of t) r t
+  alike = record {
     moves = λ s. (piece.side s).moves;
     g_rises = times_rises (of (d_of r));
     h_rises = λ x y l. times_rises (d_of t) (of x) (of y) (piece.rises x y l);
@@ -89,7 +89,7 @@ module _ {of : ℕ → ℕ} {r t : Ray} (piece : Piece of r t) where
   -- what it has of a box
   module _ (b : Side → Slab) where
     part_piece : holds r b ≡ true → part t b * of (d_of r) ≡ (of (stop r b) - of (begin r b)) * d_of t
-    part_piece h = rw (part_held t b (holds_piece b ∙ h)) (scaled _ _ _ _ _ _ (stop_as Alike b) (begin_as Alike b))
+    part_piece h = rw (part_held t b (holds_piece b ∙ h)) (scaled _ _ _ _ _ _ (stop_as alike b) (begin_as alike b))
 
     part_none : holds r b ≡ false → part t b * of (d_of r) ≡ 0 * d_of t
     part_none h = rw (part_not_held t b (holds_piece b ∙ h), zero-mul (of (d_of r)), zero-mul (d_of t))
@@ -103,11 +103,11 @@ module _ {of : ℕ → ℕ} {r t : Ray} (piece : Piece of r t) where
     pub piece_met : (s : Side) → moving (leg r s) ≡ true → 0 < part t b → PieceMet
     piece_met s moves h =
         let n : Met t b = met t b h in
-        let l : of (begin r b) < of (stop r b) = scaled_order _ _ _ _ _ _ (size_pos s moves) (begin_as Alike b) (stop_as Alike b) (rw n.begins n.some) in
+        let l : of (begin r b) < of (stop r b) = scaled_order _ _ _ _ _ _ (size_pos s moves) (begin_as alike b) (stop_as alike b) (rw n.begins n.some) in
         let ahead : begin r b < stop r b = rises_back piece.rises (begin r b) (stop r b) l in
         let some : 0 < part r b = rw (part_held r b (sym (holds_piece b) ∙ n.held)) (sub-pos_iff_lt.1 ahead) in
         let w : Met r b = met r b some in
-        record { some = some; ahead = rw w.begins at l; at = rw (← w.begins, ← n.begins) (begin_as Alike b) }
+        record { some = some; ahead = rw w.begins at l; at = rw (← w.begins, ← n.begins) (begin_as alike b) }
 
 -- ---- both
 

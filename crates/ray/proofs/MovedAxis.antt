@@ -1,4 +1,4 @@
--- One axis moved by a whole number k, ray and planes Alike: nothing changes that is told from differences and the order.
+-- One axis moved by a whole number k, ray and planes alike: nothing changes that is told from differences and the order.
 -- No bound on any number. Assumes nothing.
 use Prim.Native.Nat.{ℕ, ◌*◌, min, max}
 use mathlib.Core.Path.{◌≡◌, sym, ap, ap₂, ◌∙◌}

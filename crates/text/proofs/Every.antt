@@ -30,12 +30,12 @@ behind_nil (some ws) = refl
 pub record Reading {A : Type 0} (read : List ℕ → Option A) (s : List ℕ) (k n : ℕ) (out₀ out : List A) (e j : ℕ) : Type 0 where
   pub within : e ≤ length s
   pub few : j ≤ n
-  pub Kept : length out ≡ length out₀
+  pub kept : length out ≡ length out₀
   pub so_far : every read n (drop (k + 1) (split 9 s)) ≡ behind (take j out) (every read (n - j) (after 9 (drop e s)))
 
 module _ {A : Type 0} {read : List ℕ → Option A} {s : List ℕ} {k n : ℕ} {out₀ : List A} where
   pub reading_begins : {e : ℕ} → e ≤ length s → after 9 (drop e s) ≡ drop (k + 1) (split 9 s) → Reading read s k n out₀ out₀ e 0
-  reading_begins h rest = record { within = h; few = omega arith; Kept = refl; so_far = let all : n - 0 ≡ n = omega arith in rw (all, rest) (behind_nil (every read n (drop (k + 1) (split 9 s)))) }
+  reading_begins h rest = record { within = h; few = omega arith; kept = refl; so_far = let all : n - 0 ≡ n = omega arith in rw (all, rest) (behind_nil (every read n (drop (k + 1) (split 9 s)))) }
 
   module _ {out : List A} {e j : ℕ} (r : Reading read s k n out₀ out e j) where
     pub reading_ends : n ≤ j → some (take n out) ≡ every read n (drop (k + 1) (split 9 s))
@@ -69,7 +69,7 @@ module _ {A : Type 0} {read : List ℕ → Option A} {s : List ℕ} {k n : ℕ} 
         reading_on {v} good room = record {
           within = reading_passed;
           few = omega arith;
-          Kept = length-set out j v ∙ r.Kept;
+          kept = length-set out j v ∙ r.kept;
           so_far = turn ∙ rw (good, one_put out j v room) (behind_ahead (take j out) v (every read (n - (j + 1)) (after 9 (drop e' s))));
         }
 
@@ -88,7 +88,7 @@ module _ (most : ℕ) (t : List ℕ) where
     where
       bounded : (o : Option ℕ) → up_to most o ≡ some v → v ≤ most
       bounded none f = none_some f
-      bounded (some w) f = let Kept = cond_some (leb w most) (some w) f in omega (arith, leb-true w most Kept.0, some-injective w v Kept.1)
+      bounded (some w) f = let kept = cond_some (leb w most) (some w) f in omega (arith, leb-true w most kept.0, some-injective w v kept.1)
 
 -- what holds of every number that can be read holds of all that were
 pub every_holds : {A : Type 0} (read : List ℕ → Option A) (P : A → Type 0) (d : A) → ((t : List ℕ) (v : A) → read t ≡ some v → P v)

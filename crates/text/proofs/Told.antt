@@ -1,4 +1,4 @@
--- What an answer tells of what was read: of any reader whose answers can be read back, and of a number that was Kept. Assumes nothing.
+-- What an answer tells of what was read: of any reader whose answers can be read back, and of a number that was kept. Assumes nothing.
 use mathlib.Core.Bool.{Bool, true, false, cond}
 use mathlib.Core.Option.{Option, none, some, none-ne-some}
 use mathlib.Core.Path.{◌≡◌, refl, sym, ap, ◌∙◌}
@@ -9,7 +9,7 @@ told answer back k o a e f = sym (k o) ∙ ap back (sym e ∙ f)
 pub none_some : {A X : Type 0} {a : A} → none ≡ some a → X
 none_some {a = a} e = absurd (none-ne-some a e)
 
--- what was Kept passed the test
+-- what was kept passed the test
 pub cond_some : {A : Type 0} (b : Bool) (p : Option A) {v : A} → cond b p none ≡ some v → (b ≡ true) × (p ≡ some v)
 cond_some true p e = (refl, e)
 cond_some false p e = none_some e

@@ -1,4 +1,4 @@
--- A piece of the input, answered and written in turns: what is Kept from turn to turn. Assumes nothing.
+-- A piece of the input, answered and written in turns: what is kept from turn to turn. Assumes nothing.
 use Prim.Native.Nat.{ℕ, ◌+◌, ◌≤◌}
 use mathlib.Core.Bool.{true}
 use mathlib.Core.List.{List, [], ◌++◌, append_assoc}
@@ -17,7 +17,7 @@ use Rattle.trace.specs.Behind.{Behind, drained, Standing}
 
 -- the bytes `gone` were handed out for writing, and the piece goes on at `next`
 pub record Draining (st : State) (piece : List ℕ) (k₀ k : Held) (here : State) (next : ℕ) : Type 0 where
-  pub Kept : AsLong k₀ k
+  pub kept : AsLong k₀ k
   pub sound : Sound here
   pub begun : Begun here.have k.line
   pub lines : read here ≤ read st + next
@@ -27,12 +27,12 @@ pub record Draining (st : State) (piece : List ℕ) (k₀ k : Held) (here : Stat
 
 module _ {st : State} {piece : List ℕ} {k₀ : Held} where
   pub drain_begins : Sound st → Begun st.have k₀.line → Draining st piece k₀ k₀ st 0
-  drain_begins s b = record { Kept = as_long; sound = s; begun = b; lines = omega arith; within = omega arith; gone = []; same = λ later. refl }
+  drain_begins s b = record { kept = as_long; sound = s; begun = b; lines = omega arith; within = omega arith; gone = []; same = λ later. refl }
 
   module _ {k : Held} {here : State} {next : ℕ} (d : Draining st piece k₀ k here next) where
     pub drain_on : {p : Pumped} {k' : Held} → p.moved.going ≡ true → AsLong k k' → Pumping here 0 next piece k p k' → Draining st piece k₀ k' p.moved.state p.next
     drain_on {p} {k'} e l h = record {
-      Kept = still d.Kept l;
+      kept = still d.kept l;
       sound = h.sound;
       begun = h.begun;
       lines = omega (arith, d.lines, h.lines);
@@ -54,6 +54,6 @@ as_standing line e h = subst (λ (r : Drained). Standing r line) e h
 -- the program's loop: the lists keep their lengths, and the job stands somewhere
 pub record Serving (input₀ : List ℕ) (k₀ : Held) (input : List ℕ) (k : Held) (st : State) : Type 0 where
   pub input_kept : length input ≡ length input₀
-  pub Kept : AsLong k₀ k
+  pub kept : AsLong k₀ k
   pub sound : Sound st
   pub begun : Begun st.have k.line

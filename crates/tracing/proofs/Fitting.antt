@@ -17,13 +17,13 @@ use Rattle.tracing.specs.Answer.{accepted, written}
 put : (room : ℕ) (new old : List ℕ) → length new ≤ room → fitted room new old ≡ written 0 new old
 put room new old h = rw (le-leb (length new) room h, zero-add) refl
 
-Kept : (room : ℕ) (new old : List ℕ) → room < length new → fitted room new old ≡ old
-Kept room new old h = rw (lt-leb (length new) room h) refl
+kept : (room : ℕ) (new old : List ℕ) → room < length new → fitted room new old ≡ old
+kept room new old h = rw (lt-leb (length new) room h) refl
 
 -- no place
 nowhere : (new old : List ℕ) → fitted 0 new old ≡ old
 nowhere [] old = refl
-nowhere (x ∷ new) old = Kept 0 (x ∷ new) old (omega arith)
+nowhere (x ∷ new) old = kept 0 (x ∷ new) old (omega arith)
 
 -- ---- both
 module _ {v : Volume} {r : Ray} {room : ℕ} {vs ps vs₀ ps₀ : List ℕ} (f : Fitted v r room vs ps vs₀ ps₀) where
@@ -37,7 +37,7 @@ module _ {v : Volume} {r : Ray} {room : ℕ} {vs ps vs₀ ps₀ : List ℕ} (f :
   both_put h = (f.voxels_now ∙ put room (list_of v r) vs₀ h, f.parts_now ∙ put room parts ps₀ (omega (arith, as_many)))
 
   pub both_kept : room < length (list_of v r) → (vs ≡ vs₀) × (ps ≡ ps₀)
-  both_kept h = (f.voxels_now ∙ Kept room (list_of v r) vs₀ h, f.parts_now ∙ Kept room parts ps₀ (omega (arith, as_many)))
+  both_kept h = (f.voxels_now ∙ kept room (list_of v r) vs₀ h, f.parts_now ∙ kept room parts ps₀ (omega (arith, as_many)))
 
   pub both_nowhere : room ≡ 0 → (vs ≡ vs₀) × (ps ≡ ps₀)
   both_nowhere e = (f.voxels_now ∙ rw e (nowhere (list_of v r) vs₀), f.parts_now ∙ rw e (nowhere parts ps₀))

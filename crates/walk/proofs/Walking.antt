@@ -190,7 +190,7 @@ module _ {s : Scene} (able : Able s) {w : Walk} {at : Side → ℕ} (on : Walkin
     pub next_at : (o : Side) → leave_of w o ≡ soonest w → Next (way s o) (line s o) (rest (ray s) o) (at o)
     next_at o e = next-voxel (line s o) (able.sized o) (at o) (inside o) (rest (ray s) o) (leave_some o) (leave_less o e)
 
-    -- what is Kept on one axis
+    -- what is kept on one axis
     record Kept (o : Side) (b : Bool) : Type 0 where
       pub within : Within (line s o) (rest (ray s) o) (soonest w) (go o b)
       pub leaves : cond b (next t w o) (leave_of w o) ≡ leave s o (go o b) (go o b + 1)
@@ -218,8 +218,8 @@ module _ {s : Scene} (able : Able s) {w : Walk} {at : Side → ℕ} (on : Walkin
         lt_of_ne : (u l x : ℕ) → u ≤ l → (l ≡ u → ⊥) → l ≡ x → u < x
         lt_of_ne u l x a b c = omega arith
 
-    Kept : (o : Side) → Kept o (flag o)
-    Kept o = kept_by o (flag o) refl
+    kept : (o : Side) → Kept o (flag o)
+    kept o = kept_by o (flag o) refl
 
     left_by : (o : Side) → flag o ≡ true → Left (way s o) (at o)
     left_by o e = (next_at o (eqb-true (leave_of w o) (soonest w) e)).left
@@ -231,7 +231,7 @@ module _ {s : Scene} (able : Able s) {w : Walk} {at : Side → ℕ} (on : Walkin
     unfolding stepped
     stepped_number =
         rw on.numbers
-        (all_over (vol s) (λ o. (able.sized o).n_size) (way s) at flag (jump_of t) paced.jumps left_by inside (λ o. (Kept o).within.inside) (between on.first at)
+        (all_over (vol s) (λ o. (able.sized o).n_size) (way s) at flag (jump_of t) paced.jumps left_by inside (λ o. (kept o).within.inside) (between on.first at)
         (omega (arith, gap_few X, gap_few Y, gap_few Z))
         ∙ ap (counted (number (vol s) on_at)) (omega (arith, (come_on X).1, (come_on Y).1, (come_on Z).1)))
 
@@ -241,12 +241,12 @@ module _ {s : Scene} (able : Able s) {w : Walk} {at : Side → ℕ} (on : Walkin
     newest_on : most (enter_in s on_at) ≡ soonest w
     newest_on =
         let o = least_one (leave_of w) in
-        le_antisymm (most_le _ (soonest w) (λ x. (Kept x).within.since)) (le_trans (le_of_eq (sym (fresh o.0 o.1))) (le_most (enter_in s on_at) o.0))
+        le_antisymm (most_le _ (soonest w) (λ x. (kept x).within.since)) (le_trans (le_of_eq (sym (fresh o.0 o.1))) (le_most (enter_in s on_at) o.0))
 
     pub walking_on : Walking s (stepped t w) on_at
     walking_on = record {
-      within = λ o. rw (step_tick t w) (Kept o).within;
-      leaves = λ o. step_leave t w o ∙ (Kept o).leaves;
+      within = λ o. rw (step_tick t w) (kept o).within;
+      leaves = λ o. step_leave t w o ∙ (kept o).leaves;
       newest = newest_on ∙ sym (step_tick t w);
       first = on.first;
       began = on.began;

@@ -21,26 +21,26 @@ loop c = c.before.before.before.before.before.before
 loop-holds : tie.Need-loop-init invariant-loop decreases-loop
 loop-holds c =
     let new = c.new.ensures.1 in
-    record { input_kept = refl; Kept = as_long; sound = new.0; begun = new_begun c.before.before.before.before.before.args.line.now new.1 }
+    record { input_kept = refl; kept = as_long; sound = new.0; begun = new_begun c.before.before.before.before.before.args.line.now new.1 }
 
 turn-requires : tie.Need-turn-requires invariant-loop decreases-loop
 turn-requires c κs =
     let l = c.before.before.before.before.before in
     let i = l.loop.invariant in
     let p = l.before.before.before.before.before.before.requires in
-    ((i.sound, i.begun, buffers i.Kept p.0), (omega (arith, i.input_kept, p.1.0), omega (arith, i.Kept.out, p.1.1)))
+    ((i.sound, i.begun, buffers i.kept p.0), (omega (arith, i.input_kept, p.1.0), omega (arith, i.kept.out, p.1.1)))
 
 same_length : tie.Need-same-length invariant-loop decreases-loop
 same_length c = let t = c.before.before.before.before.before.before.before.before.before.before in t.turn.auto.1.0 ∙ (loop t).loop.invariant.input_kept
 
 same_length_2 : tie.Need-same-length-2 invariant-loop decreases-loop
-same_length_2 c = let t = c.before.before.before.before.before.before.before.before.before.before in t.turn.auto.1.1.0 ∙ (loop t).loop.invariant.Kept.line
+same_length_2 c = let t = c.before.before.before.before.before.before.before.before.before.before in t.turn.auto.1.1.0 ∙ (loop t).loop.invariant.kept.line
 
 same-length-3 : tie.Need-same-length-3 invariant-loop decreases-loop
-same-length-3 c = let t = c.before.before.before.before.before.before.before.before.before.before in t.turn.auto.1.1.1.0 ∙ (loop t).loop.invariant.Kept.densities
+same-length-3 c = let t = c.before.before.before.before.before.before.before.before.before.before in t.turn.auto.1.1.1.0 ∙ (loop t).loop.invariant.kept.densities
 
 same-length-4 : tie.Need-same-length-4 invariant-loop decreases-loop
-same-length-4 c = let t = c.before.before.before.before.before.before.before.before.before.before in t.turn.auto.1.1.1.1.0 ∙ (loop t).loop.invariant.Kept.out
+same-length-4 c = let t = c.before.before.before.before.before.before.before.before.before.before in t.turn.auto.1.1.1.1.0 ∙ (loop t).loop.invariant.kept.out
 
 returns : tie.Need-returns invariant-loop decreases-loop
 returns c = tt
@@ -56,7 +56,7 @@ loop-again c =
     let stand = as_standing t.turn.new.1.1.0 c.before.drained.given.1 t.turn.ensures in
     record {
       input_kept = l.1.0 ∙ i.input_kept;
-      Kept = still i.Kept (record { line = l.1.1.0; densities = l.1.1.1.0; out = l.1.1.1.1.0 });
+      kept = still i.kept (record { line = l.1.1.0; densities = l.1.1.1.0; out = l.1.1.1.1.0 });
       sound = stand.0;
       begun = stand.1;
     }
@@ -71,13 +71,13 @@ same-length-5 : tie.Need-same-length-5 invariant-loop decreases-loop
 same-length-5 c = c.before.before.before.loop.invariant.input_kept
 
 same-length-6 : tie.Need-same-length-6 invariant-loop decreases-loop
-same-length-6 c = c.before.before.before.loop.invariant.Kept.line
+same-length-6 c = c.before.before.before.loop.invariant.kept.line
 
 same-length-7 : tie.Need-same-length-7 invariant-loop decreases-loop
-same-length-7 c = c.before.before.before.loop.invariant.Kept.densities
+same-length-7 c = c.before.before.before.loop.invariant.kept.densities
 
 same-length-8 : tie.Need-same-length-8 invariant-loop decreases-loop
-same-length-8 c = c.before.before.before.loop.invariant.Kept.out
+same-length-8 c = c.before.before.before.loop.invariant.kept.out
 
 returns-2 : tie.Need-returns-2 invariant-loop decreases-loop
 returns-2 c = tt

@@ -45,7 +45,7 @@ pump-requires c κs =
       f.taken.sound,
       f.taken.begun,
       record { room = omega (arith, go.2); number = omega (arith, f.taken.lines, s.requires.1.2, go.1) },
-      buffers f.Kept s.requires.0.2,
+      buffers f.kept s.requires.0.2,
       omega (arith, f.taken.within, s.requires.1.1),
     )
 
@@ -65,13 +65,13 @@ loop-again c =
     (record { line = l.1.0; densities = l.1.1.1.1.0; out = l.1.1.1.1.1.0 }) q.pump.ensures.1
 
 same_length : tie.Need-same-length invariant-loop decreases-loop
-same_length c = c.before.before.loop.invariant.Kept.line
+same_length c = c.before.before.loop.invariant.kept.line
 
 same_length_2 : tie.Need-same-length-2 invariant-loop decreases-loop
-same_length_2 c = c.before.before.loop.invariant.Kept.densities
+same_length_2 c = c.before.before.loop.invariant.kept.densities
 
 same-length-3 : tie.Need-same-length-3 invariant-loop decreases-loop
-same-length-3 c = c.before.before.loop.invariant.Kept.out
+same-length-3 c = c.before.before.loop.invariant.kept.out
 
 returns : tie.Need-returns invariant-loop decreases-loop
 returns c =
@@ -79,7 +79,7 @@ returns c =
     let f = o.invariant in
     let s = c.before.before.before.before.before.before.before in
     let stop : another o.p (length s.args.piece.now) (length s.args.out.now) ≡ false =
-    ap (another o.p (length s.args.piece.now)) (sym f.Kept.out) ∙ sym c.before.another.ensures ∙ c.if1.false in
+    ap (another o.p (length s.args.piece.now)) (sym f.kept.out) ∙ sym c.before.another.ensures ∙ c.if1.false in
     (feed_moves f stop s.requires.1.0, (stop, f.taken))
 
 pub feed_spec : {M : Type 1} → statement M

@@ -25,7 +25,7 @@ loop-again c =
     cells_on c.before.before.before.before.before.before.before.loop.invariant (omega arith) (omega arith) put.ensures.0 put.auto.1.1.1.0 put.ensures.1
 
 same_length : tie.Need-same-length invariant-loop decreases-loop
-same_length c = c.before.loop.invariant.Kept
+same_length c = c.before.loop.invariant.kept
 
 returns : tie.Need-returns invariant-loop decreases-loop
 returns c = (omega arith, cells_end c.before.loop.invariant (omega arith))

@@ -25,8 +25,8 @@ module _ (c : tie.After-take-line) where
   abbrev printed : List ℕ
   printed = take s.args.at s.args.out.now
 
-  Kept : {t : Took} → c.take_line.result ≡ t → load.Kept s.args.st.load t
-  Kept e = as_kept s.args.st.load e c.take_line.ensures.0
+  kept : {t : Took} → c.take_line.result ≡ t → load.kept s.args.st.load t
+  kept e = as_kept s.args.st.load e c.take_line.ensures.0
 
   step : {t : Took} → c.take_line.result ≡ t
       → line_step (stand_of s.args.st s.args.densities.now) s.args.line.now ≡ step_of (stand_of s.args.st s.args.densities.now) s.args.line.now (reading_of s.args.st.load t densities)
@@ -36,13 +36,13 @@ take-ray-requires : tie.Need-take-ray-requires
 take-ray-requires c κs =
     let t = c.before.before in
     let k = t.before.before.before.before in
-    ((s k).requires.0, (s k).requires.1, Kept k t.enum_told.given.1, search rules)
+    ((s k).requires.0, (s k).requires.1, kept k t.enum_told.given.1, search rules)
 
 returns : tie.Need-returns
 returns c =
     let v = c.before.took.given in
     let k = c.before.before.before.before.before in
-    let more = Kept k v.1 in
+    let more = kept k v.1 in
     (record { sound = sound_in (s k).requires.0 more; have = refl; lines = omega (arith, more.lines); room = omega arith }, went (printed k) (sym (append-nil (printed k))) (step k v.1))
 
 returns-2 : tie.Need-returns-2

@@ -29,11 +29,11 @@ module _ (c : tie.After-turn invariant-loop decreases-loop) where
   abbrev k : Held
   k = held c.turn.new.1.0 c.turn.new.1.1.1.1.0 c.turn.new.1.1.1.1.1.0
 
-  Kept : AsLong (held loop.loop.line loop.loop.densities loop.loop.answer) k
-  Kept = let l = c.turn.auto in record { line = l.1.0; densities = l.1.1.1.1.0; out = l.1.1.1.1.1.0 }
+  kept : AsLong (held loop.loop.line loop.loop.densities loop.loop.answer) k
+  kept = let l = c.turn.auto in record { line = l.1.0; densities = l.1.1.1.1.0; out = l.1.1.1.1.1.0 }
 
   part : length (take n k.out) ≡ n
-  part = part_length loop.loop.inv c.before.before.before.before.loop-test.true c.turn.ensures Kept.out
+  part = part_length loop.loop.inv c.before.before.before.before.loop-test.true c.turn.ensures kept.out
 
 loop-holds : tie.Need-loop-init invariant-loop decreases-loop
 loop-holds c =
@@ -46,19 +46,19 @@ turn-requires c κs =
     let l = c.before.before.before.before in
     let r = l.loop.invariant in
     let p = l.before.before.before.before.before.before.requires.1 in
-    ((r.sound, r.begun, buffers r.Kept p.0), (omega (arith, r.Kept.out, p.1), r.within, r.counted))
+    ((r.sound, r.begun, buffers r.kept p.0), (omega (arith, r.kept.out, p.1), r.within, r.counted))
 
 sub-if1 : tie.Need-overflow-sub-if1 invariant-loop decreases-loop
 sub-if1 c = (loop c.before.before.before.before.before.before.before).loop.inv.room
 
 same_length : tie.Need-same-length invariant-loop decreases-loop
-same_length c = let t = c.before.before.before.before.before.before.before.before in (Kept t).line ∙ (loop t).loop.invariant.Kept.line
+same_length c = let t = c.before.before.before.before.before.before.before.before in (kept t).line ∙ (loop t).loop.invariant.kept.line
 
 same_length_2 : tie.Need-same-length-2 invariant-loop decreases-loop
-same_length_2 c = let t = c.before.before.before.before.before.before.before.before in (Kept t).densities ∙ (loop t).loop.invariant.Kept.densities
+same_length_2 c = let t = c.before.before.before.before.before.before.before.before in (kept t).densities ∙ (loop t).loop.invariant.kept.densities
 
 same-length-3 : tie.Need-same-length-3 invariant-loop decreases-loop
-same-length-3 c = let t = c.before.before.before.before.before.before.before.before in (Kept t).out ∙ (loop t).loop.invariant.Kept.out
+same-length-3 c = let t = c.before.before.before.before.before.before.before.before in (kept t).out ∙ (loop t).loop.invariant.kept.out
 
 same-length-4 : tie.Need-same-length-4 invariant-loop decreases-loop
 same-length-4 c = (loop c.before.before.before.before.before.before.before.before).loop.inv.out_kept
@@ -67,12 +67,12 @@ returns : tie.Need-returns invariant-loop decreases-loop
 returns c =
     let t = c.before.before.before.before.before.before.before.before in
     let l = (loop t).loop in
-    run_short l.inv t.before.before.before.before.loop-test.true t.turn.ensures (Kept t).out l.out (omega (arith, c.if1.true, l.inv.room))
+    run_short l.inv t.before.before.before.before.loop-test.true t.turn.ensures (kept t).out l.out (omega (arith, c.if1.true, l.inv.room))
 
 slice-reshare-prefix-put-bytes : tie.Need-slice-reshare-prefix-put-bytes invariant-loop decreases-loop
 slice-reshare-prefix-put-bytes c =
     let t = c.before.before.before.before.before.before.before.before.before in
-    omega (arith, t.turn.ensures.room, (Kept t).out)
+    omega (arith, t.turn.ensures.room, (kept t).out)
 
 slice-aggregate-put-bytes : tie.Need-slice-aggregate-put-bytes invariant-loop decreases-loop
 slice-aggregate-put-bytes c = sym (part c.before.before.before.before.before.before.before.before.before.before)
@@ -93,16 +93,16 @@ loop-again c =
     let t = c.before.before.before.before.before.before.before.before.before.before.before.before.before.before in
     let e = c.before.before.before.before.before.before in
     let fits : put.result ≤ length (loop t).loop.out = omega (arith, put.ensures.0, e.if1.false, (loop t).loop.invariant.room, part t) in
-    run_on (loop t).loop.invariant t.before.before.before.before.loop-test.true t.turn.ensures (Kept t) put.auto.0 put.ensures.1 fits
+    run_on (loop t).loop.invariant t.before.before.before.before.loop-test.true t.turn.ensures (kept t) put.auto.0 put.ensures.1 fits
 
 same-length-5 : tie.Need-same-length-5 invariant-loop decreases-loop
-same-length-5 c = c.before.loop.invariant.Kept.line
+same-length-5 c = c.before.loop.invariant.kept.line
 
 same-length-6 : tie.Need-same-length-6 invariant-loop decreases-loop
-same-length-6 c = c.before.loop.invariant.Kept.densities
+same-length-6 c = c.before.loop.invariant.kept.densities
 
 same-length-7 : tie.Need-same-length-7 invariant-loop decreases-loop
-same-length-7 c = c.before.loop.invariant.Kept.out
+same-length-7 c = c.before.loop.invariant.kept.out
 
 same-length-8 : tie.Need-same-length-8 invariant-loop decreases-loop
 same-length-8 c = c.before.loop.invariant.out_kept

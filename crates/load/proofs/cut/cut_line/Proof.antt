@@ -16,13 +16,13 @@ loop-holds : tie.Need-loop-init invariant-loop decreases-loop
 loop-holds c = cut_begins (omega arith) c.requires.0
 
 same_length : tie.Need-same-length invariant-loop decreases-loop
-same_length c = c.before.before.before.loop.invariant.Kept
+same_length c = c.before.before.before.loop.invariant.kept
 
 returns : tie.Need-returns invariant-loop decreases-loop
 returns c = cut_ends c.before.before.before.loop.invariant (omega arith) c.if1.true
 
 same_length_2 : tie.Need-same-length-2 invariant-loop decreases-loop
-same_length_2 c = c.before.before.before.before.loop.invariant.Kept
+same_length_2 c = c.before.before.before.before.loop.invariant.kept
 
 returns-2 : tie.Need-returns-2 invariant-loop decreases-loop
 returns-2 c = cut_long c.before.before.before.before.loop.invariant (omega arith) c.before.if1.false (omega arith)
@@ -31,7 +31,7 @@ loop-again : tie.Need-loop-preserved invariant-loop decreases-loop
 loop-again c = cut_on c.before.before.before.before.loop.invariant (omega arith) c.before.if1.false (omega arith) (omega arith)
 
 same-length-3 : tie.Need-same-length-3 invariant-loop decreases-loop
-same-length-3 c = c.before.loop.invariant.Kept
+same-length-3 c = c.before.loop.invariant.kept
 
 returns-3 : tie.Need-returns-3 invariant-loop decreases-loop
 returns-3 c = cut_more c.before.loop.invariant (omega arith)

@@ -17,8 +17,8 @@ text c = c.before.before.args.t.now
 minus : (c : tie.Then1) → has_minus (text c.before) ≡ true
 minus c = sym c.before.has_minus.ensures ∙ c.if1.true
 
-Plain : (c : tie.Else1) → has_minus (text c.before) ≡ false
-Plain c = sym c.before.has_minus.ensures ∙ c.if1.false
+plain : (c : tie.Else1) → has_minus (text c.before) ≡ false
+plain c = sym c.before.has_minus.ensures ∙ c.if1.false
 
 -- the number that was read, behind a minus and without one
 size : (c : tie.After-size) → (let t = text c.before.before.before.before.before in natural_of (take (length t - 1) (drop 1 t)) ≡ some c.size.given.0.0)
@@ -77,7 +77,7 @@ enum-told-2 : tie.Need-enum-told-2
 enum-told-2 c = search rules
 
 returns-4 : tie.Need-returns-4
-returns-4 c = ap read_integer (integer_plain _ (Plain c.before.before.before) (natural_told c.before.before.natural-in2.ensures c.enum-told2.given.1))
+returns-4 c = ap read_integer (integer_plain _ (plain c.before.before.before) (natural_told c.before.before.natural-in2.ensures c.enum-told2.given.1))
 
 cast-t14 : tie.Need-overflow-cast-t14
 cast-t14 c = fits _ (size2 c.before)
@@ -85,7 +85,7 @@ cast-t14 c = fits _ (size2 c.before)
 returns-5 : tie.Need-returns-5
 returns-5 c =
     let k = c.before in
-    ap read_integer (ap some (as_pos _ (size2 k)) ∙ integer_plain _ (Plain k.before.before.before) (size2 k))
+    ap read_integer (ap some (as_pos _ (size2 k)) ∙ integer_plain _ (plain k.before.before.before) (size2 k))
 
 pub integer_in_spec : {M : Type 1} → statement M
 integer_in_spec =

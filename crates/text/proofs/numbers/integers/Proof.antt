@@ -24,7 +24,7 @@ loop-holds : tie.Need-loop-init invariant-loop decreases-loop
 loop-holds c = reading_begins (omega arith) c.field.ensures.1.1
 
 same_length : tie.Need-same-length invariant-loop decreases-loop
-same_length c = c.before.before.loop.invariant.Kept
+same_length c = c.before.before.loop.invariant.kept
 
 returns : tie.Need-returns invariant-loop decreases-loop
 returns c = reading_short c.before.before.loop.invariant (omega arith) (omega arith)
@@ -54,7 +54,7 @@ enum_told : tie.Need-enum-told invariant-loop decreases-loop
 enum_told c = search rules
 
 same_length_2 : tie.Need-same-length-2 invariant-loop decreases-loop
-same_length_2 c = c.before.before.before.before.before.before.before.loop.invariant.Kept
+same_length_2 c = c.before.before.before.before.before.before.before.loop.invariant.kept
 
 returns-2 : tie.Need-returns-2 invariant-loop decreases-loop
 returns-2 c =
@@ -85,7 +85,7 @@ loop-again c =
     (omega arith))
 
 same-length-3 : tie.Need-same-length-3 invariant-loop decreases-loop
-same-length-3 c = c.before.loop.invariant.Kept
+same-length-3 c = c.before.loop.invariant.kept
 
 returns-3 : tie.Need-returns-3 invariant-loop decreases-loop
 returns-3 c = reading_ends c.before.loop.invariant (omega arith)
