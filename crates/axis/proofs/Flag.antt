@@ -12,6 +12,7 @@ holds e = subst T (sym e) tt
 
 pub is_true : (b : Bool) → T b → b ≡ true
 is_true true h = refl
+is_true false h = elim h [ ]
 
 pub off_or_on : (b : Bool) {X : Type 0} → b ≡ true → b ≡ false → X
 off_or_on b e f = absurd (true≢false (sym e ∙ f))

@@ -33,6 +33,7 @@ natural_diff a zero = omega arith
 natural_diff a (suc b) = natural_sub a (suc b)
 
 low_negsuc : (k n : ℕ) → Low k (negsuc n) → suc n ≤ k
+low_negsuc zero n h = elim h [ ]
 low_negsuc (suc k) n h = omega (arith, leb→le n k h)
 
 low_negsuc' : (k n : ℕ) → suc n ≤ k → Low k (negsuc n)

@@ -1,11 +1,13 @@
 // One axis of the density volume: its numbers, its limits, and the check of both.
+#![tactic(auto)]
+
 ghost use Rattle.std.specs.Prelude.{◌≡◌, cond, eqb, pos, ◌+ℤ◌};
 ghost use Rattle.axis.specs.Leg.{natural};
 ghost use Rattle.axis.specs.Codes.{tenths, inside, beyond, planes_out, axis_code, checked_axis, told};
 
 // n voxels of spacing d from the first plane b on, in units of 0.1 mm. The fields say nothing of the
 // limits: whoever takes an axis checks it.
-#[derive(Drop)]
+#[derive(Clone, Copy)]
 pub struct Axis {
     pub n: u32,
     pub d: u32,
@@ -13,7 +15,7 @@ pub struct Axis {
 }
 
 // The greatest n and d that a device takes, and how far from 0 a coordinate may lie.
-#[derive(Drop)]
+#[derive(Clone, Copy)]
 pub struct Limits {
     pub n: u32,
     pub d: u32,
@@ -21,7 +23,7 @@ pub struct Limits {
 }
 
 // What the checked constructor answers: the axis, or the code that refuses it.
-#[derive(Drop)]
+#[derive(Clone, Copy)]
 pub enum Checked {
     Fine(Axis),
     Refused(u32),
@@ -114,8 +116,8 @@ impl Axis {
 
     pub fn checked(n: u32, d: u32, b: i32) -> Checked
         ensures value { result ≡ checked_axis tenths (record { n = n; d = d; b = b }) }
-        ensures result_value { (told result).0 ≡ axis_code tenths (record { n = n; d = d; b = b }) }
-        ensures result_value_2 { (told result).1 ≡ cond (eqb (told result).0 0) (record { n = n; d = d; b = b }) (record { n = 0; d = 0; b = pos 0 }) }
+        ensures code { (told result).0 ≡ axis_code tenths (record { n = n; d = d; b = b }) }
+        ensures axis { (told result).1 ≡ cond (eqb (told result).0 0) (record { n = n; d = d; b = b }) (record { n = 0; d = 0; b = pos 0 }) }
     {
         let a = Axis { n, d, b };
         let code = a.code(Axis::TENTHS);
