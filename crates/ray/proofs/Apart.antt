@@ -108,7 +108,7 @@ module _ (v : Volume) (rise : Rise v) (r : Ray) where
         | no k ↦ side_apart Y k
         | yes y ↦ elim (ℕ_discrete (index v m Z) (index v w Z)) [
           | no k ↦ side_apart Z k
-          | yes z ↦ absurd (h (index_same v m w (λ s. elim s [ X ↦ x | Y ↦ y | Z ↦ z ])))
+          | yes z ↦ absurd (h (index_same v m w (λ s. elim s as (λ o. index v m o ≡ index v w o) [ X ↦ x | Y ↦ y | Z ↦ z ])))
         ]
       ]
     ]

@@ -7,7 +7,7 @@ use mathlib.Core.Logic.{inl, inr}
 use native.Mathlib.Nat.{mul_assoc, mul_comm, mul_left_comm, one-mul, mul-pos, min-zero, min-eq_left, min-le_left, le_of_eq}
 use native.Mathlib.Omega.{arith}
 use lib.IntN.{ℤ}
-use Rattle.axis.specs.Leg.{moving, factor, run, Slab, held, enters, leaves}
+use Rattle.axis.specs.Leg.{moving, factor, run, Slab, enters, leaves}
 use Rattle.ray.specs.declared.Ray.{Ray}
 use Rattle.ray.specs.Length.{Side, X, Y, Z, leg, d_of, rest, Volume, voxel, holds, start, stop, part_of}
 use Rattle.ray.proofs.Through.{Rises, over, max_rises, min_rises, sides_as, either_as, min_cap_rises, times_rises, cap_rises}

@@ -95,7 +95,7 @@ module _ {n d : ℕ} {l : Leg} {m : ℤ} (cut : CutAt n d l m) where
 
   -- m lies between the ends, whichever is the lower
   pub ordered : ((le_z l.p m ≡ true) × (le_z m l.q ≡ true)) ⊎ ((le_z l.q m ≡ true) × (le_z m l.p ≡ true))
-  ordered = told l m m (λ k hm hm' w. elim w [
+  ordered = told l m m (λ k hm hm' w. elim w as (λ v. Going k v l → ((le_z l.p m ≡ true) × (le_z m l.q ≡ true)) ⊎ ((le_z l.q m ≡ true) × (le_z m l.p ≡ true))) [
     | up ↦ λ t. let i = goes hm up t in inl (shift_le k l.p m t.low_p hm (omega arith), shift_le k m l.q hm t.low_q (omega arith))
     | down ↦ λ t. let i = goes hm down t in inr (shift_le k l.q m t.low_q hm (omega arith), shift_le k m l.p hm t.low_p (omega arith))
     | still ↦ λ t. let i = goes hm still t in inl (shift_le k l.p m t.low_p hm (omega arith), shift_le k m l.q hm t.low_q (omega arith))

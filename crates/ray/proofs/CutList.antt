@@ -18,7 +18,7 @@ use Rattle.ray.specs.Codes.{end_rows}
 use Rattle.ray.proofs.Through.{rises_back}
 use Rattle.ray.proofs.Rising.{Rising, rising_as}
 use Rattle.ray.proofs.Listing.{Listed, starts, list_sound, list_whole, list_listed, list_is}
-use Rattle.ray.proofs.Capped.{part, part_voxel, d_pos, met}
+use Rattle.ray.proofs.Capped.{part_voxel, d_pos, met}
 use Rattle.ray.proofs.Planes.{Rise, grid_rise}
 use Rattle.ray.proofs.Apart.{voxel_apart, starts_apart}
 use Rattle.ray.proofs.CutBox.{Between, near, far, scaled_order, Piece, size_pos, PieceMet, piece_met, up_to, near_piece, far_piece, parts}

@@ -17,7 +17,7 @@ Rise v = (s : Side) (i : ℕ) → i < (v s).n → le_z ((v s).at i) ((v s).at (i
 
 -- those of every grid do
 pub grid_rise : (g : Grid) → Rise (volume g)
-grid_rise g s i h = elim s [ X ↦ on_axis g.x | Y ↦ on_axis g.y | Z ↦ on_axis g.z ]
+grid_rise g s i h = elim s as (λ o. le_z ((volume g o).at i) ((volume g o).at (i + 1)) ≡ true) [ X ↦ on_axis g.x | Y ↦ on_axis g.y | Z ↦ on_axis g.z ]
   where
     on_axis : (a : Axis) → le_z ((planes a).at i) ((planes a).at (i + 1)) ≡ true
     on_axis a = le_add a.b (i * a.d) ((i + 1) * a.d) (mul-le-mul_right a.d (omega arith))

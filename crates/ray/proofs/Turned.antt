@@ -40,7 +40,7 @@ going_back : {k : ℕ} {l : Leg} {w : Way} → Going k w l → (w' : Way) → Go
 going_back t w' g = record { low_p = t.low_q; low_q = t.low_p; goes = g }
 
 passed_back : (l : Leg) (c : ℤ) → moving l ≡ true → passed (back l) c ≡ factor l - passed l c
-passed_back l c m = told l c c (λ k hc hm w. elim w [
+passed_back l c m = told l c c (λ k hc hm w. elim w as (λ v. Going k v l → passed (back l) c ≡ factor l - passed l c) [
   | up ↦ λ t. omega (arith, factor_back l, factor_by_lem up t, run_by_lem c hc down (going_back t down t.goes), run_by_lem c hc up t)
   | down ↦ λ t. omega (arith, factor_back l, factor_by_lem down t, run_by_lem c hc up (going_back t up t.goes), run_by_lem c hc down t)
   | still ↦ λ t. off_or_on (moving l) m (moving_by still t)
@@ -56,7 +56,9 @@ turned r = record { p = r.q; q = r.p }
 
 module _ (r : Ray) where
   leg_turned : (s : Side) → leg (turned r) s ≡ back (leg r s)
-  leg_turned s = elim s [ X ↦ refl | Y ↦ refl | Z ↦ refl ]
+  leg_turned X = refl
+  leg_turned Y = refl
+  leg_turned Z = refl
 
   pub moving_turned : (s : Side) → moving (leg (turned r) s) ≡ moving (leg r s)
   moving_turned s = ap moving (leg_turned s) ∙ moving_back (leg r s)

@@ -75,14 +75,14 @@ told l c m f =
 
 module _ (l : Leg) where
   pub still_same : moving l ≡ false → l.p ≡ l.q
-  still_same h = told l l.p l.p (λ k hc hm w. elim w [
+  still_same h = told l l.p l.p (λ k hc hm w. elim w as (λ v. Going k v l → l.p ≡ l.q) [
     | up ↦ λ t. off_or_on (moving l) (moving_by up t) h
     | down ↦ λ t. off_or_on (moving l) (moving_by down t) h
     | still ↦ λ t. same_shift k l.p l.q t.low_p t.low_q t.goes
   ])
 
   pub factor_pos : 0 < factor l
-  factor_pos = told l l.p l.p (λ k hc hm w. elim w [
+  factor_pos = told l l.p l.p (λ k hc hm w. elim w as (λ v. Going k v l → 0 < factor l) [
     | up ↦ λ t. omega (arith, factor_by_lem up t)
     | down ↦ λ t. omega (arith, factor_by_lem down t)
     | still ↦ λ t. omega (arith, factor_by_lem still t)

@@ -1,9 +1,11 @@
 // The density volume's grid, the ray through it, what a trace is lent, and the checks of grid and ray.
+#![tactic(auto)]
+
 pub mod check;
 
 use axis::Axis;
 
-#[derive(Drop)]
+#[derive(Clone, Copy)]
 pub struct Grid {
     pub x: Axis,
     pub y: Axis,
@@ -11,7 +13,7 @@ pub struct Grid {
 }
 
 // An end of a ray, in units of 0.1 mm.
-#[derive(Drop)]
+#[derive(Clone, Copy)]
 pub struct End {
     pub x: i32,
     pub y: i32,
@@ -19,14 +21,14 @@ pub struct End {
 }
 
 // From p to q.
-#[derive(Drop)]
+#[derive(Clone, Copy)]
 pub struct Ray {
     pub p: End,
     pub q: End,
 }
 
 // The lengths of the lists that a trace is lent, and how many places of the last two are taken.
-#[derive(Drop)]
+#[derive(Clone, Copy)]
 pub struct Lent {
     pub densities: usize,
     pub voxels: usize,
