@@ -6,7 +6,7 @@ ghost use Rattle.line.specs.Scene.{leg_n, slab_n, plane, Sized};
 use crate::extremes::{apart, either, past};
 
 // The ray goes from p to q; plane i is at b + i * d, i from 0 to n.
-#[derive(Drop)]
+#[derive(Clone, Copy)]
 pub struct Line {
     pub p: u64,
     pub q: u64,

@@ -9,7 +9,7 @@ use crate::line::Line;
 use axis::{Axis, Limits, raised};
 use ray::{Grid, Ray};
 
-#[derive(Drop)]
+#[derive(Clone, Copy)]
 pub struct Scene {
     pub x: Line,
     pub y: Line,
