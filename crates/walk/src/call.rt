@@ -12,7 +12,7 @@ use line::scene::{Scene, squared_of};
 
 // What a ray meets of the array. The entries are counted whether or not there is room for them; without room the planes crossed and
 // the sum are 0.
-#[derive(Drop)]
+#[derive(Clone, Copy)]
 pub struct Walked {
     pub entries: usize,
     pub crossed: u64,
@@ -35,7 +35,7 @@ fn enter(
 ) -> Tally
     requires forward { Forward p.strides to p.walk × (to ≤ 2 ^ 48) }
     requires dense { Dense densities.now (entries p.strides to p.walk) }
-    requires walk_len_bound { length (entries p.strides to p.walk) ≤ most }
+    requires enough { length (entries p.strides to p.walk) ≤ most }
     requires room_in_bounds { (room ≤ length voxels.old) × (room ≤ length parts.old) }
     ensures { Entered densities.now (entries p.strides to p.walk) room result voxels.new parts.new voxels.old parts.old }
 {

@@ -5,7 +5,7 @@ ghost use Rattle.walk.specs.Model.{Forward, entries, Dense, tally_of, Filled};
 use crate::steps::{Strides, Walk};
 
 // What is told of the entries: how many, the planes crossed before the last of them, and the sum of part times density.
-#[derive(Drop)]
+#[derive(Clone, Copy)]
 pub struct Tally {
     pub entries: usize,
     pub crossed: u64,
@@ -41,8 +41,8 @@ pub fn fill(
 ) -> Tally
     requires forward { Forward s to begin × (to ≤ 2 ^ 48) }
     requires dense { Dense densities.now (entries s to begin) }
-    requires begin_in_bounds { length (entries s to begin) ≤ length voxels.old }
-    requires begin_in_bounds_2 { length (entries s to begin) ≤ length parts.old }
+    requires voxels_room { length (entries s to begin) ≤ length voxels.old }
+    requires parts_room { length (entries s to begin) ≤ length parts.old }
     ensures value { result ≡ tally_of densities.now (entries s to begin) }
     ensures filled { Filled (entries s to begin) voxels.new parts.new voxels.old parts.old }
 {

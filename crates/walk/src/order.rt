@@ -8,14 +8,14 @@ use crate::steps::{Strides, Walk};
 use line::extremes::either;
 
 // One axis of a walk: the tick at which the voxel is left, the ticks from plane to plane, and what a plane crossed adds to v.
-#[derive(Drop)]
+#[derive(Clone, Copy)]
 pub struct Track {
     pub leave: u64,
     pub step: u64,
     pub jump: u64,
 }
 
-#[derive(Drop)]
+#[derive(Clone, Copy)]
 pub struct Pair {
     pub first: Track,
     pub second: Track,

@@ -9,7 +9,7 @@ use line::reach::Reach;
 use line::scene::Scene;
 
 // D, what is left of it without each axis, the ticks at which the ray comes into the array and goes out, and whether it does.
-#[derive(Drop)]
+#[derive(Clone, Copy)]
 pub struct Frame {
     pub cx: u64,
     pub cy: u64,
@@ -21,14 +21,14 @@ pub struct Frame {
 }
 
 // On each axis the first plane after αmin, by equation (6).
-#[derive(Drop)]
+#[derive(Clone, Copy)]
 pub struct Ahead {
     pub x: u64,
     pub y: u64,
     pub z: u64,
 }
 
-#[derive(Drop)]
+#[derive(Clone, Copy)]
 pub struct Plan {
     pub walk: Walk,
     pub strides: Strides,

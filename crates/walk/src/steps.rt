@@ -8,7 +8,7 @@ use std::num::wrapping_add_u64;
 // Where the walk is since the tick t, and the ticks at which it leaves its voxel on each axis. v is the voxel's number, and 2^32 for
 // each plane crossed since the walk began: in the last voxel that is the brackets of equation (9), without the planes met at αmin or
 // αmax itself.
-#[derive(Drop)]
+#[derive(Clone, Copy)]
 pub struct Walk {
     pub x: u64,
     pub y: u64,
@@ -18,7 +18,7 @@ pub struct Walk {
 }
 
 // On each axis the ticks from plane to plane, and what a plane crossed adds to v.
-#[derive(Drop)]
+#[derive(Clone, Copy)]
 pub struct Strides {
     pub dx: u64,
     pub dy: u64,
