@@ -20,6 +20,10 @@ ne_zero n h = ne_eqb n 0 (λ e. omega arith)
 
 div_at : (f : Format) (x y : Float) (s t : Bool) (a b : ℕ) → 0 < b → HasValue x s a 1 → HasValue y t b 1 → div f x y ≡ round f (unlike s t) a b
 unfolding div
+div_at f nan y s t a b B v w = elim v [ ]
+div_at f (inf _) y s t a b B v w = elim v [ ]
+div_at f (fin s' m e) nan s t a b B v w = elim w [ ]
+div_at f (fin s' m e) (inf _) s t a b B v w = elim w [ ]
 div_at f (fin s' m e) (fin t' n d) s t a b B v w =
     let N : 0 < n = first_pos n (up d) (first_pos (n * up d) 1 (subst (λ (z : ℕ). 0 < z) (sym w.1) (mul-pos B (down_pos d)))) in
     ap (λ (z : Bool). cond z (cond (eqb m 0) nan (inf (unlike s' t'))) (round f (unlike s' t') (m * up e * down d) (n * up d * down e))) (ne_zero n N)

@@ -20,6 +20,10 @@ lt_or_eq a b t = elim (dec_le a b) [ yes h ↦ h | no h ↦ absurd (rw (le-ltb a
 
 pub values_of_le : (x y : Float) (a c b d : ℕ) → HasValue x false a c → HasValue y false b d → T (le x y) → a * d ≤ b * c
 unfolding le
+values_of_le nan y a c b d p q h = elim p [ ]
+values_of_le (inf _) y a c b d p q h = elim p [ ]
+values_of_le (fin false m e) nan a c b d p q h = elim q [ ]
+values_of_le (fin false m e) (inf _) a c b d p q h = elim q [ ]
 values_of_le (fin true m e) y a c b d p q h = absurd (true≢false p.0)
 values_of_le (fin false m e) (fin true n g) a c b d p q h = absurd (true≢false q.0)
 values_of_le (fin false m e) (fin false n g) a c b d p q h =
@@ -34,6 +38,10 @@ transfer_lt x y de dd a b c c' D D' p q h =
 
 pub lt_of_values : (x y : Float) (a c b d : ℕ) → HasValue x false a c → HasValue y false b d → a * d < b * c → T (lt x y)
 unfolding lt
+lt_of_values nan y a c b d p q h = elim p [ ]
+lt_of_values (inf _) y a c b d p q h = elim p [ ]
+lt_of_values (fin false m e) nan a c b d p q h = elim q [ ]
+lt_of_values (fin false m e) (inf _) a c b d p q h = elim q [ ]
 lt_of_values (fin true m e) y a c b d p q h = absurd (true≢false p.0)
 lt_of_values (fin false m e) (fin true n g) a c b d p q h = absurd (true≢false q.0)
 lt_of_values (fin false m e) (fin false n g) a c b d p q h =
@@ -46,6 +54,8 @@ bare (inf s) = not s
 bare (fin s m e) = not s
 
 bare_value : (x : Float) (a c : ℕ) → HasValue x false a c → T (bare x)
+bare_value nan a c h = elim h [ ]
+bare_value (inf _) a c h = elim h [ ]
 bare_value (fin true m e) a c h = absurd (true≢false h.0)
 bare_value (fin false m e) a c h = tt
 
@@ -62,6 +72,8 @@ round_bare f a b = subst (λ (z : Float). T (bare z)) (sym (round_is f false a b
 
 under_finite : (x y : Float) (a c : ℕ) → T (bare x) → HasValue y false a c → T (le x y) → T (finite x)
 unfolding le
+under_finite (inf false) nan a c p q h = elim q [ ]
+under_finite (inf false) (inf _) a c p q h = elim q [ ]
 under_finite nan y a c p q h = absurd p
 under_finite (inf true) y a c p q h = absurd p
 under_finite (inf false) (fin t n d) a c p q h = absurd h

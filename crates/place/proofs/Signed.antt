@@ -10,7 +10,7 @@ use lib.IntN.{ℤ, pos, negsuc, neg_ℤ, nat_abs, ◌*ℤ◌, neg_ℤ-neg_ℤ, p
 use lib.Signed.{le_z}
 use lib.Dec.{T, ltb, eqb, leb→le, lit<}
 use lib.Count.{count_trailing_zeros}
-use lib.Ieee.{Float, inf, fin, Format, binary64, prec, emax, low, up, down, odd, units, size, span, climb, round, neg, lt, eq, le, of_int}
+use lib.Ieee.{Float, nan, inf, fin, Format, binary64, prec, emax, low, up, down, odd, units, size, span, climb, round, neg, lt, eq, le, of_int}
 use lib.Ieee.Fits.{round_is, round-fits, and_i, and_l}
 use lib.Ieee.Order.{round_mono}
 use lib.Ieee.Scale.{round_same}
@@ -70,6 +70,15 @@ apart a b = elim (dec_lt 0 (a + b)) [
 
 neg_le_neg : (x y : Float) → T (bare x) → T (bare y) → T (le y x) → T (le (neg x) (neg y))
 unfolding le neg
+neg_le_neg nan y p q h = elim p [ ]
+neg_le_neg (inf false) nan p q h = elim q [ ]
+neg_le_neg (inf false) (inf true) p q h = elim q [ ]
+neg_le_neg (inf false) (fin true n d) p q h = elim q [ ]
+neg_le_neg (inf true) y p q h = elim p [ ]
+neg_le_neg (fin false m e) nan p q h = elim q [ ]
+neg_le_neg (fin false m e) (inf true) p q h = elim q [ ]
+neg_le_neg (fin false m e) (fin true n d) p q h = elim q [ ]
+neg_le_neg (fin true m e) y p q h = elim p [ ]
 neg_le_neg (inf false) (inf false) p q h = tt
 neg_le_neg (inf false) (fin false n d) p q h = tt
 neg_le_neg (fin false m e) (inf false) p q h = absurd h
@@ -77,6 +86,15 @@ neg_le_neg (fin false m e) (fin false n d) p q h = of_le (n * up d * down e) (m 
 
 neg_le : (x y : Float) → T (bare x) → T (bare y) → T (le (neg x) y)
 unfolding le neg
+neg_le nan y p q = elim p [ ]
+neg_le (inf false) nan p q = elim q [ ]
+neg_le (inf false) (inf true) p q = elim q [ ]
+neg_le (inf false) (fin true n d) p q = elim q [ ]
+neg_le (inf true) y p q = elim p [ ]
+neg_le (fin false m e) nan p q = elim q [ ]
+neg_le (fin false m e) (inf true) p q = elim q [ ]
+neg_le (fin false m e) (fin true n d) p q = elim q [ ]
+neg_le (fin true m e) y p q = elim p [ ]
 neg_le (inf false) (inf false) p q = tt
 neg_le (inf false) (fin false n d) p q = tt
 neg_le (fin false m e) (inf false) p q = tt
@@ -125,6 +143,9 @@ exact z c d D e = nearest_same z c d 1 D (lit< tt) (times_one z ∙ e) ∙ sym (
 -- a negative fraction is too far from 0 to round to it
 eq_neg : (x : Float) → T (bare x) → T (eq (neg x) zero64) → T (eq x zero64)
 unfolding eq neg
+eq_neg nan b h = elim b [ ]
+eq_neg (inf true) b h = elim b [ ]
+eq_neg (fin true m e) b h = elim b [ ]
 eq_neg (inf false) b h = h
 eq_neg (fin false m e) b h = let z = eqb (m * up e * 1) (0 * 1 * down e) in and_i z true (and_l z _ h) tt
 

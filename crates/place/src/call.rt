@@ -9,14 +9,14 @@ use ray::{Grid, Ray};
 
 pub fn place(g: Grid, r: Ray) -> Place
     ensures value { result ≡ place_of tenths g r }
-    ensures result_value { told result ≡ told_of tenths g r }
+    ensures numbers { told result ≡ told_of tenths g r }
 {
     device::place(Axis::TENTHS, g, r)
 }
 
 pub fn points(g: Grid, r: Ray) -> Points
     ensures value { result ≡ points_of tenths g r }
-    ensures mark_value { mark_code result.mark ≡ refusal_of tenths g r }
+    ensures code { mark_code result.mark ≡ refusal_of tenths g r }
 {
     device::points(Axis::TENTHS, g, r)
 }

@@ -13,7 +13,7 @@ use ray::Ray;
 
 // The place f of the way from p to q, times f's denominator. Told from the lower limit up the ends have no sign.
 fn along(p: u64, q: u64, f: Fraction) -> u64
-    requires p_bound { (p ≤ 2 ^ 20) × (q ≤ 2 ^ 20) }
+    requires sizes { (p ≤ 2 ^ 20) × (q ≤ 2 ^ 20) }
     requires on_ray { OnRay f }
     ensures { result ≡ p * (f.den - f.num) + q * f.num }
 {
@@ -22,7 +22,7 @@ fn along(p: u64, q: u64, f: Fraction) -> u64
 
 fn coordinate_at(m: Limits, p: i32, q: i32, f: Fraction) -> f64
     requires small { Small m }
-    requires p_value { (inside m p ≡ true) × (inside m q ≡ true) }
+    requires both_inside { (inside m p ≡ true) × (inside m q ≡ true) }
     requires on_ray { OnRay f }
     ensures { result ≡ coordinate (record { p = p; q = q }) f.num f.den }
 {
@@ -35,7 +35,7 @@ fn coordinate_at(m: Limits, p: i32, q: i32, f: Fraction) -> f64
 
 pub fn point_at(m: Limits, r: Ray, f: Fraction) -> Point
     requires small { Small m }
-    requires r_value { first (end_rows m r) ≡ 0 }
+    requires ends { first (end_rows m r) ≡ 0 }
     requires on_ray { OnRay f }
     ensures { result ≡ point_at r f.num f.den }
 {

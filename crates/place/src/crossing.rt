@@ -12,7 +12,7 @@ use line::scene::{Scene, scene_of};
 use ray::{Grid, Ray};
 
 // What one axis leaves of the ray, from enter to leave, and whether it holds a ray that stands still on it.
-#[derive(Drop)]
+#[derive(Clone, Copy)]
 pub struct Stretch {
     pub enter: Fraction,
     pub leave: Fraction,
@@ -20,7 +20,7 @@ pub struct Stretch {
 }
 
 // What is found of a ray: a refusal's code, a miss, or αmin and αmax.
-#[derive(Drop)]
+#[derive(Clone, Copy)]
 pub enum Crossing {
     Refused(u32),
     Miss,

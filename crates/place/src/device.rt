@@ -11,9 +11,9 @@ use axis::Limits;
 use ray::{Grid, Ray};
 
 pub fn place(m: Limits, g: Grid, r: Ray) -> Place
-    requires { Small m }
+    requires small { Small m }
     ensures value { result ≡ place_of m g r }
-    ensures result_value { told result ≡ told_of m g r }
+    ensures numbers { told result ≡ told_of m g r }
 {
     let c = across(m, g, r);
     match c {
@@ -44,9 +44,9 @@ fn unplaced(mark: Mark) -> Points
 }
 
 pub fn points(m: Limits, g: Grid, r: Ray) -> Points
-    requires { Small m }
+    requires small { Small m }
     ensures value { result ≡ points_of m g r }
-    ensures mark_value { mark_code result.mark ≡ refusal_of m g r }
+    ensures code { mark_code result.mark ≡ refusal_of m g r }
 {
     let c = across(m, g, r);
     match c {

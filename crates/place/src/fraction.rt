@@ -4,7 +4,7 @@ ghost use Rattle.std.specs.Float.{binary64};
 ghost use Rattle.std.specs.Float.Ieee.{round};
 ghost use Rattle.place.specs.Deciding.{Short, OnRay, below, greater, lesser};
 
-#[derive(Drop)]
+#[derive(Clone, Copy)]
 pub struct Fraction {
     pub num: u64,
     pub den: u64,
@@ -12,27 +12,27 @@ pub struct Fraction {
 
 // Whether a is below b, by the products: nothing is rounded.
 pub fn less(a: Fraction, b: Fraction) -> bool
-    requires short { Short a }
-    requires short_2 { Short b }
+    requires a_short { Short a }
+    requires b_short { Short b }
     ensures { result ≡ below a b }
 {
     a.num * b.den < b.num * a.den
 }
 
 pub fn greater_of(a: Fraction, b: Fraction) -> Fraction
-    requires short { Short a }
-    requires short_2 { Short b }
+    requires a_short { Short a }
+    requires b_short { Short b }
     ensures value { result ≡ greater a b }
-    ensures short_3 { Short result }
+    ensures short { Short result }
 {
     if less(a, b) { b } else { a }
 }
 
 pub fn lesser_of(a: Fraction, b: Fraction) -> Fraction
-    requires short { Short a }
-    requires short_2 { Short b }
+    requires a_short { Short a }
+    requires b_short { Short b }
     ensures value { result ≡ lesser a b }
-    ensures short_3 { Short result }
+    ensures short { Short result }
 {
     if less(b, a) { b } else { a }
 }

@@ -1,4 +1,6 @@
 // Places for drawing: where a ray enters and leaves the array, as floats.
+#![tactic(auto)]
+
 pub mod call;
 mod coordinate;
 mod crossing;
@@ -6,7 +8,7 @@ pub mod device;
 mod fraction;
 
 // The place call's answer: the code of a refusal; a miss; or αmin and αmax.
-#[derive(Drop)]
+#[derive(Clone, Copy)]
 pub enum Place {
     Refused(u32),
     Miss,
@@ -14,7 +16,7 @@ pub enum Place {
 }
 
 // A place in the array, in units of 0.1 mm.
-#[derive(Drop)]
+#[derive(Clone, Copy)]
 pub struct Point {
     pub x: f64,
     pub y: f64,
@@ -22,7 +24,7 @@ pub struct Point {
 }
 
 // What the point call found; on a miss or a refusal both points are positive zeros.
-#[derive(Drop)]
+#[derive(Clone, Copy)]
 pub enum Mark {
     Refused(u32),
     Miss,
@@ -30,7 +32,7 @@ pub enum Mark {
 }
 
 // The point call's answer: the mark, and the entering and leaving points.
-#[derive(Drop)]
+#[derive(Clone, Copy)]
 pub struct Points {
     pub mark: Mark,
     pub enter: Point,
