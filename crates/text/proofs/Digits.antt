@@ -67,6 +67,9 @@ module _ {t : List ℕ} {v i : ℕ} (r : SoFar t v i) where
       pub digits_on : v ≤ 99999 → SoFar t (v * 10 + (get_or t i 0 - 48)) (i + 1)
       digits_on g = record { within = omega arith; small = omega arith; says = r.says ∙ rw (add-one, drop-cons t i 0) (digits_step v (get_or t i 0) (drop (suc i) t) e f g) }
 
+-- what reads a numeral
+pub ruleset reads = (natural_empty, natural_zero, natural_padded, digits_begin, digits_end, digits_low, digits_high, digits_full, digits_on)
+
 pub minus_empty : (t : List ℕ) → length t ≡ 0 → false ≡ has_minus t
 unfolding has_minus
 minus_empty [] h = refl

@@ -26,14 +26,14 @@ of_natural (natural.Value v) = some v
 of_natural natural.Bad = none
 
 pub natural_told : {o : Option ℕ} {r a : Natural} → r ≡ read_natural o → r ≡ a → o ≡ of_natural a
-natural_told {o} {r} {a} = told read_natural of_natural (λ o. elim o [ none ↦ refl | some v ↦ refl ]) o a
+natural_told {o} {r} {a} = told read_natural of_natural (λ o. elim o as (λ k. of_natural (read_natural k) ≡ k) [ none ↦ refl | some v ↦ refl ]) o a
 
 abbrev of_integer : Integer → Option ℤ
 of_integer (integer.Value z) = some z
 of_integer integer.Bad = none
 
 pub integer_told : {o : Option ℤ} {r a : Integer} → r ≡ read_integer o → r ≡ a → o ≡ of_integer a
-integer_told {o} {r} {a} = told read_integer of_integer (λ o. elim o [ none ↦ refl | some z ↦ refl ]) o a
+integer_told {o} {r} {a} = told read_integer of_integer (λ o. elim o as (λ k. of_integer (read_integer k) ≡ k) [ none ↦ refl | some z ↦ refl ]) o a
 
 pub minus_some : (t : List ℕ) → has_minus t ≡ true → 1 ≤ length t
 unfolding has_minus
@@ -76,3 +76,29 @@ module _ (t : List ℕ) {v : ℕ} (read : natural_of t ≡ some v) where
 
   pub negated_read : (v ≡ 0 → ⊥) → some (to_z w32 (of_z w32 (pos 0 -ℤ to_z w32 v))) ≡ negative (some v)
   negated_read h = ap some (to_z-of_z w32 (pos 0 -ℤ to_z w32 v) negated_fits ∙ negated) ∙ negative_some v h
+
+pub value_small : (t : List ℕ) (v : ℕ) → natural.Value v ≡ read_natural (natural_of t) → v < 1000000
+value_small t v e = natural_small t (natural_told e refl)
+
+-- what the reader of integers answers, by what was answered of the part behind the minus
+module _ (t : List ℕ) where
+  pub minus_bad : has_minus t ≡ true → natural.Bad ≡ read_natural (natural_of (take (length t - 1) (drop 1 t))) → integer.Bad ≡ read_integer (integer_of t)
+  minus_bad m e = ap read_integer (integer_minus t m (natural_told e refl))
+
+  pub minus_zero : (v : ℕ) → has_minus t ≡ true → natural.Value v ≡ read_natural (natural_of (take (length t - 1) (drop 1 t))) → v ≡ 0
+      → integer.Bad ≡ read_integer (integer_of t)
+  minus_zero v m e z = ap read_integer (integer_minus t m (natural_told e refl ∙ ap some z))
+
+  pub minus_value : (v : ℕ) → has_minus t ≡ true → natural.Value v ≡ read_natural (natural_of (take (length t - 1) (drop 1 t))) → (v ≡ 0 → ⊥)
+      → integer.Value (to_z w32 (of_z w32 (pos 0 -ℤ to_z w32 v))) ≡ read_integer (integer_of t)
+  minus_value v m e z = let read = natural_told e refl in ap read_integer (negated_read _ read z ∙ integer_minus t m read)
+
+  -- and of the whole, where there is none
+  pub plain_bad : has_minus t ≡ false → natural.Bad ≡ read_natural (natural_of t) → integer.Bad ≡ read_integer (integer_of t)
+  plain_bad m e = ap read_integer (integer_plain t m (natural_told e refl))
+
+  pub plain_value : (v : ℕ) → has_minus t ≡ false → natural.Value v ≡ read_natural (natural_of t) → integer.Value (to_z w32 v) ≡ read_integer (integer_of t)
+  plain_value v m e = let read = natural_told e refl in ap read_integer (ap some (as_pos t read) ∙ integer_plain t m read)
+
+-- what reads a numeral with a sign
+pub ruleset reads = (minus_some, value_small, minus_bad, minus_zero, minus_value, plain_bad, plain_value)

@@ -1,4 +1,6 @@
 // The bytes of the text job: a line's fields, its first word and its numbers, and the lines of output.
+#![tactic(auto)]
+
 pub mod fields;
 pub mod number;
 pub mod numbers;

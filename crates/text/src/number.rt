@@ -2,19 +2,20 @@
 ghost use Rattle.std.specs.Prelude.{◌≡◌};
 ghost use Rattle.text.specs.Number.{natural_of, read_natural, has_minus, integer_of, read_integer};
 
-#[derive(Drop)]
+#[derive(Clone, Copy)]
 pub enum Natural {
     Value(u32),
     Bad,
 }
 
-#[derive(Drop)]
+#[derive(Clone, Copy)]
 pub enum Integer {
     Value(i32),
     Bad,
 }
 
 // The number that t is the numeral of, where no minus is allowed.
+#[tactic(auto, using(crate::proofs::Digits::reads))]
 pub fn natural_in(t: &[u8]) -> Natural
     ensures { result ≡ read_natural (natural_of t.now) }
 {
@@ -46,6 +47,7 @@ pub fn natural_in(t: &[u8]) -> Natural
     Natural::Value(v)
 }
 
+#[tactic(auto, using(crate::proofs::Digits::minus_empty, crate::proofs::Digits::minus_first))]
 fn has_minus(t: &[u8]) -> bool
     ensures { result ≡ has_minus t.now }
 {
@@ -56,6 +58,7 @@ fn has_minus(t: &[u8]) -> bool
 }
 
 // The number that t is the numeral of, where a minus is allowed.
+#[tactic(auto, using(crate::proofs::Sign::reads))]
 pub fn integer_in(t: &[u8]) -> Integer
     ensures { result ≡ read_integer (integer_of t.now) }
 {

@@ -26,6 +26,7 @@ pub fn put_bytes(out: &mut [u8], at: usize, bytes: &[u8]) -> usize
     at + i
 }
 
+#[tactic(auto, using(crate::proofs::Decimal::decimal_one, crate::proofs::Decimal::decimal_many, crate::proofs::Decimal::length_one, crate::proofs::Decimal::length_many))]
 pub fn put_decimal(out: &mut [u8], at: usize, x: u64) -> usize
     requires { at + length (decimal x) ≤ length out.old }
     ensures value { result ≡ at + length (decimal x) }
@@ -39,6 +40,7 @@ pub fn put_decimal(out: &mut [u8], at: usize, x: u64) -> usize
 }
 
 // A number of 64 bits has at most 20 digits, and a space stands ahead of it.
+#[tactic(auto, using(crate::proofs::Decimal::length_word))]
 fn put_spaced(out: &mut [u8], at: usize, x: u64) -> usize
     requires { at + 21 ≤ length out.old }
     ensures upper_bound { result ≤ at + 21 }
@@ -63,6 +65,7 @@ fn put_numbers(out: &mut [u8], at: usize, numbers: &[u64]) -> usize
 }
 
 // A whole line: a word, each number after one space, and LF.
+#[tactic(auto, using(crate::proofs::Written::line_made))]
 pub fn put_line(out: &mut [u8], at: usize, word: &[u8], numbers: &[u64]) -> usize
     requires { at + length word.now + 21 * length numbers.now + 1 ≤ length out.old }
     ensures upper_bound { result ≤ at + length word.now + 21 * length numbers.now + 1 }

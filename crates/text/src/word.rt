@@ -6,7 +6,7 @@ ghost use Rattle.text.specs.Word.{same, word_of};
 use crate::fields::field;
 
 // The words of the loader, and the word of the program's own kind of line.
-#[derive(Drop)]
+#[derive(Clone, Copy)]
 pub enum Word {
     Grid,
     Dens,
@@ -14,6 +14,7 @@ pub enum Word {
     Other,
 }
 
+#[tactic(auto, using(crate::proofs::Same::same_length, crate::proofs::Same::same_on, crate::proofs::Same::same_other, crate::proofs::Same::same_end))]
 fn same_bytes(a: &[u8], b: &[u8]) -> bool
     ensures { result ≡ same a.now b.now }
 {
