@@ -67,4 +67,4 @@ of_grid (grid.Axes g) = some g
 of_grid grid.Bad = none
 
 pub grid_told : (o : Option Grid) {r : GridLine} (a : GridLine) → r ≡ read_grid o → r ≡ a → o ≡ of_grid a
-grid_told = reader.told read_grid of_grid (λ o. elim o [ none ↦ refl | some g ↦ refl ])
+grid_told = reader.told read_grid of_grid (λ o. elim o as (λ k. of_grid (read_grid k) ≡ k) [ none ↦ refl | some g ↦ refl ])

@@ -5,7 +5,7 @@ use mathlib.Core.Path.{◌≡◌, refl, sym, ◌∙◌}
 use lib.Dec.{ltb}
 use native.Mathlib.Nat.{mul-le-mul, mul_assoc, mul_comm, mul_left_comm}
 use native.Mathlib.Omega.{arith}
-use borrow.Author.Tests.{ltb-false}
+use borrow.Author.Tests.{ltb-false, lt-ltb}
 use Rattle.axis.specs.declared.Limits.{Limits}
 use Rattle.axis.specs.Codes.{Row, row, first}
 use Rattle.axis.proofs.Table.{then, then_none, joined, off}
@@ -53,3 +53,11 @@ module _ {nx ny nz : ℕ} (s : Sides nx ny nz) where
 
   pub voxels_fit : nx * ny * nz ≤ 134217728
   voxels_fit = mul-le-mul {n₂ = 262144} {m₂ = 512} rows_fit s.z.1
+
+-- as many voxels as a grid has that no code of ray refuses
+pub voxels_small : (m : Limits) (g : Grid) → m.n ≤ 512 → first (grid_rows m g) ≡ 0 → g.x.n * g.y.n * g.z.n ≤ 134217728
+voxels_small m g h e = voxels_fit (sides m g h e)
+
+-- and 25 where they are too many
+pub code_many : (m : Limits) (g : Grid) → first (grid_rows m g) ≡ 0 → 4096 < g.x.n * g.y.n * g.z.n → 25 ≡ grid_code m g
+code_many m g e h = sym (code_then m g ∙ rw (e, lt-ltb 4096 (count (volume g)) h) refl)

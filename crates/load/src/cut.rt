@@ -3,7 +3,7 @@ ghost use Rattle.std.specs.Prelude.{◌≤◌, length, take};
 ghost use Rattle.load.specs.Cut.{Begun, CutInto};
 
 // What a piece did to the line that has begun.
-#[derive(Drop)]
+#[derive(Clone, Copy)]
 pub enum Cut {
     // It ended: len bytes, and next is behind its LF.
     Line { len: usize, next: usize },
@@ -14,6 +14,7 @@ pub enum Cut {
 }
 
 // Moves the piece's bytes from `from` on behind the first `have` of the line, up to the next LF.
+#[tactic(auto, using(crate::proofs::Cutting::cut_more, crate::proofs::Cutting::cut_ends, crate::proofs::Cutting::cut_long))]
 pub fn cut_line(line: &mut [u8], have: usize, piece: &[u8], from: usize) -> Cut
     requires { Begun have line.old × (4096 ≤ length line.old) × (from ≤ length piece.now) }
     ensures { CutInto result (take have line.old) piece.now from line.new }

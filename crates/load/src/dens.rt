@@ -23,10 +23,11 @@ fn store(row: &[u32], n: usize, densities: &mut [u16], at: usize)
     }
 }
 
+#[tactic(auto, using(crate::proofs::Loading::sound_dens))]
 pub fn take_dens(st: Load, line: &[u8], densities: &mut [u16]) -> Took
     requires { Sound st × (0 < st.lines) × (0 < st.left) × (4096 ≤ length densities.old) }
     ensures kept { Kept st result }
-    ensures densities_after { reading_of st result densities.new ≡ dens_read (loaded_of st densities.old) (dens_in st.grid.x.n (split 9 line.now)) }
+    ensures reading { reading_of st result densities.new ≡ dens_read (loaded_of st densities.old) (dens_in st.grid.x.n (split 9 line.now)) }
 {
     let x = st.grid.x;
     let nx = x.n as usize;

@@ -14,7 +14,7 @@ use ray::check::grid_code;
 use text::numbers::{integers, naturals};
 
 // The numbers of a GRID line.
-#[derive(Drop)]
+#[derive(Clone, Copy)]
 pub enum GridLine {
     Axes(Grid),
     Bad,
@@ -50,6 +50,7 @@ fn grid_in(line: &[u8]) -> GridLine
 }
 
 // 1, 2, 3, or 25 where the grid has more than 4096 voxels; 0 where it is taken.
+#[tactic(auto, using(crate::proofs::Taking::voxels_small, crate::proofs::Taking::code_many))]
 fn taken_code(m: Limits, g: Grid) -> u32
     requires { m.n ≤ 512 }
     ensures { result ≡ grid_code m g }
@@ -70,7 +71,7 @@ fn taken_code(m: Limits, g: Grid) -> u32
 pub fn take_grid(st: Load, line: &[u8]) -> Took
     requires { Sound st × (st.lines ≡ 0) }
     ensures kept { Kept st result }
-    ensures by_index { (ds : List ℕ) → reading_of st result ds ≡ grid_read st.limits (grid_in (split 9 line.now)) }
+    ensures reading { (ds : List ℕ) → reading_of st result ds ≡ grid_read st.limits (grid_in (split 9 line.now)) }
 {
     let read = grid_in(line);
     let GridLine::Axes(g) = read else {

@@ -11,7 +11,7 @@ use crate::head::head_code;
 use crate::state::Load;
 
 // What became of a line.
-#[derive(Drop)]
+#[derive(Clone, Copy)]
 pub enum Took {
     // A GRID or a DENS line that is taken in.
     In(Load),
@@ -23,10 +23,11 @@ pub enum Took {
 
 // Takes in a line of at most 4096 bytes, its LF left out. Lines of the program's own kind begin with
 // `word` and have `fields` fields.
+#[tactic(auto, unfolding(crate::specs::Line::line_read, crate::specs::Line::numbers_read))]
 pub fn take_line(st: Load, line: &[u8], word: &[u8], fields: usize, densities: &mut [u16]) -> Took
     requires { Sound st × (4096 ≤ length densities.old) × (length line.now ≤ 4096) }
     ensures kept { Kept st result }
-    ensures densities_after { reading_of st result densities.new ≡ line_read word.now fields (loaded_of st densities.old) line.now }
+    ensures reading { reading_of st result densities.new ≡ line_read word.now fields (loaded_of st densities.old) line.now }
 {
     let due = st.due();
     let x = st.grid.x;

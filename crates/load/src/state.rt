@@ -8,7 +8,7 @@ use ray::Grid;
 
 // At the limits of a device `lines` GRID and DENS lines are taken in, and `left` DENS lines are still to come. The densities
 // read are the first `filled` of the lent densities.
-#[derive(Drop)]
+#[derive(Clone, Copy)]
 pub struct Load {
     pub limits: Limits,
     pub grid: Grid,
@@ -21,7 +21,7 @@ impl Load {
     // Nothing is read.
     pub fn new(m: Limits) -> Load
         requires { m.n ≤ 512 }
-        ensures by_index { (ds : List ℕ) → loaded_of result ds ≡ nothing m }
+        ensures loaded { (ds : List ℕ) → loaded_of result ds ≡ nothing m }
         ensures sound { Sound result × (result.limits ≡ m) }
     {
         let none = Axis { n: 0, d: 0, b: 0 };
