@@ -36,11 +36,11 @@ of_ray (Ends r) = some r
 of_ray Bad = none
 
 pub ray_told : (o : Option Ray) {r : RayLine} (a : RayLine) → r ≡ read_ray o → r ≡ a → o ≡ of_ray a
-ray_told = told read_ray of_ray (λ o. elim o [ none ↦ refl | some r ↦ refl ])
+ray_told = told read_ray of_ray (λ o. elim o as (λ k. of_ray (read_ray k) ≡ k) [ none ↦ refl | some r ↦ refl ])
 
 -- what is kept by a line that the loader took, by what it is told to be
-pub as_kept : (st : Load) {r t : Took} → r ≡ t → load.kept st r → load.kept st t
-as_kept st e h = subst (load.kept st) e h
+pub as_kept : (st : Load) {r t : Took} → r ≡ t → load.Kept st r → load.Kept st t
+as_kept st e h = subst (load.Kept st) e h
 
 pub step_read : (st : State) (l densities densities' : List ℕ) {r t : Took} → r ≡ t → reading_of st.load r densities' ≡ line_read RAY 7 (loaded_of st.load densities) l
     → line_step (stand_of st densities) l ≡ step_of (stand_of st densities) l (reading_of st.load t densities')

@@ -17,7 +17,7 @@ use tracing::Trace;
 use tracing::device::trace;
 
 // The numbers of a RAY line.
-#[derive(Drop)]
+#[derive(Clone, Copy)]
 pub enum RayLine {
     Ends(Ray),
     Bad,

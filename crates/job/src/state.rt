@@ -11,7 +11,7 @@ use load::state::Load;
 
 // What is loaded, and the RAY lines answered. The bytes of the line that has begun are the first
 // `have` of the lent line.
-#[derive(Drop)]
+#[derive(Clone, Copy)]
 pub struct State {
     pub load: Load,
     pub rays: u64,
@@ -19,7 +19,7 @@ pub struct State {
 }
 
 // The state behind a line, where the output now ends, and whether the job goes on.
-#[derive(Drop)]
+#[derive(Clone, Copy)]
 pub struct Moved {
     pub state: State,
     pub at: usize,
@@ -30,7 +30,7 @@ impl State {
     // Nothing is read.
     pub fn new(m: Limits) -> State
         requires { Suited m }
-        ensures by_index { (ds : List ℕ) → stand_of result ds ≡ at_first m }
+        ensures stands { (ds : List ℕ) → stand_of result ds ≡ at_first m }
         ensures sound { Sound result × (result.have ≡ 0) }
     {
         State {

@@ -41,7 +41,7 @@ fn take_line(st: State, line: &[u8], densities: &mut [u16], out: &mut [u8], at: 
 }
 
 // What a piece of the input moved the job to, and where in the piece it goes on.
-#[derive(Drop)]
+#[derive(Clone, Copy)]
 pub struct Pumped {
     pub moved: Moved,
     pub next: usize,
@@ -94,7 +94,7 @@ pub fn pump(
 pub fn finish(st: State, out: &mut [u8], at: usize) -> usize
     requires { Sound st × (at + room ≤ length out.old) × (read st + st.have < 2 ^ 64) }
     ensures upper_bound { result ≤ at + room }
-    ensures by_index { (line densities : List ℕ) → Begun st.have line → take result out.new ≡ take at out.old ++ job_from (stand_of st densities) (take st.have line) }
+    ensures printed { (line densities : List ℕ) → Begun st.have line → take result out.new ≡ take at out.old ++ job_from (stand_of st densities) (take st.have line) }
 {
     let load = st.load;
     if st.have != 0 {

@@ -15,7 +15,7 @@ use axis::Axis;
 use text::put::put_bytes;
 
 // What writing the job's output came to: all of it, so many bytes, or the room did not suffice.
-#[derive(Drop)]
+#[derive(Clone, Copy)]
 pub enum Written {
     All(usize),
     Short,
