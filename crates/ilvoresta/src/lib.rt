@@ -1,5 +1,6 @@
-// The C entry points, for the viewer. To C a list is a pointer and then the number of its elements; lists lent together do not
-// overlap.
+// The entry points for the viewer, by numbers and lists. `ilvoresta_c` hands them to C under the same names, in an archive.
+#![tactic(auto)]
+
 ghost use Rattle.axis.specs.Codes.{tenths};
 ghost use Rattle.tracing.specs.Answer.{lists};
 ghost use Rattle.ilvoresta.specs.Entry.{grid_of, ray_of, Traced, Placed};
@@ -15,8 +16,7 @@ use axis::Axis;
 
 // Returns the code. On code 0 the first places of `voxels` and `parts` hold the entries, and `answer` the six numbers; else all
 // three are as they were.
-#[unsafe(no_mangle)]
-pub extern "C" fn ilvoresta_trace(
+pub fn ilvoresta_trace(
     nx: u32,
     ny: u32,
     nz: u32,
@@ -46,8 +46,7 @@ pub extern "C" fn ilvoresta_trace(
 }
 
 // Returns the code. On code 0 `answer` holds enter and leave, or two zeros; else it is as it was.
-#[unsafe(no_mangle)]
-pub extern "C" fn ilvoresta_place(
+pub fn ilvoresta_place(
     nx: u32,
     ny: u32,
     nz: u32,

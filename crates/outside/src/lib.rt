@@ -1,5 +1,7 @@
 // The calls that C has no entry for, as C functions, for the comparisons alone (compare/driver.c): doors that a caller's
 // header does not name.
+#![tactic(auto)]
+
 ghost use Rattle.axis.specs.Codes.{tenths};
 ghost use Rattle.tracing.specs.Answer.{lists};
 ghost use Rattle.ilvoresta.specs.Entry.{grid_of, ray_of};
