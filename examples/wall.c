@@ -2,7 +2,7 @@
  * How much metal lies along a ray? A hollow casting is traced through the C entry points, and its wall
  * thickness worked out from the weighted sum, D and the squared length.
  *
- *   rt staticlib ilvoresta
+ *   machine/archive ilvoresta
  *   machine/x86 cc target/wall examples/wall.c target/staticlib/libilvoresta.a
  *   machine/x86 run target/wall
  *

@@ -1,7 +1,7 @@
 /*
  * Ilvoresta: exact traces of a straight ray through a box-shaped array of voxels.
  *
- * Link target/staticlib/libilvoresta.a (made by `rt staticlib ilvoresta`; x86-64 Linux). It needs no
+ * Link target/staticlib/libilvoresta.a (made by `machine/archive ilvoresta`; x86-64 Linux). It needs no
  * other library, keeps no state and allocates nothing, so both calls may be made from any thread and
  * at the same time, as long as no list that one call writes is used by another.
  *

@@ -1,4 +1,4 @@
-/* What the C files of compare/ and examples/ use of the C library, for a machine whose own headers are another processor's (see x86). */
+/* What the C files of compare/ and examples/ use of the C library, for a build with the kit's own tools, which come with no headers (see x86). */
 #ifndef ILVORESTA_LIBC_H
 #define ILVORESTA_LIBC_H
 

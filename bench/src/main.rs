@@ -30,7 +30,7 @@ fn main() -> ExitCode {
     ExitCode::SUCCESS
 }
 
-/// The name that /proc/cpuinfo gives, if it gives one: on Arm it does not.
+/// The name that /proc/cpuinfo gives, if it gives one.
 fn processor() -> Option<String> {
     let told = std::fs::read_to_string("/proc/cpuinfo").ok()?;
     let name = told.lines().find(|line| line.starts_with("model name"))?;
