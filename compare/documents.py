@@ -15,22 +15,24 @@ from pathlib import Path
 from typing import Callable, Iterable, Iterator, NamedTuple
 
 import machine
-from source import Item, Source, expanded, items, unused
+from source import Item, Source, expanded, items, paths_in, unused
 from tally import Tally
 
 PROMISES, DECISIONS, RULES, EQUATIONS = "docs/PROMISES.md", "docs/DECISIONS.md", "docs/RULES.md", "docs/EQUATIONS.md"
+SPARE = "Laws that no answer cites"  # their section of the promises
 DOCUMENTS = ("README.md", PROMISES, DECISIONS, "docs/PROVING.md", "docs/SPEED.md", RULES, EQUATIONS)
-CUSTOMER = ("axis", "ray", "tracing", "place", "ilvoresta")  # the crates that a customer calls, beside job::whole
+CUSTOMER = ("axis", "ray", "tracing", "place", "ilvoresta", "ilvoresta_c")  # the crates that a customer calls, beside job::whole
 
 TOKEN = re.compile(r"`([^`]+)`(:(?!:))?|\||[.!?](?=[\s)]|$)")
 BLOCK = re.compile(r"\s*(?:[-*] |\d+\. |[|#])")  # begins a line that goes on from no line above
 FILE = re.compile(r"\w+/(?:specs|proofs|src)(?:/[\w+/-]+)?")
 ITEM = re.compile(r"\w+(?:::\w+)*::(?:\w+|\{[\w, ]+\})")
-WORD = re.compile(r"[^\W\d][\w′″-]*")
+WORD = re.compile(r"[^\W\d][\w'-]*")
 COMPOUND = re.compile(r"\w[-_]\w|[a-z][A-Z]")  # in a word of an expression: it is no English
 ENDS = (".md", ".py", ".rt", ".antt", ".h", ".c", ".job", ".txt")
+BUILT = re.compile(r"target/|crates/\w+/out(?:/|$)")  # begins a path that only a build makes
 ANY = re.compile(r"(?<!\w)(?:CRATE|NAME|FILE|F)(?!\w)|…")  # in a path
-COMMANDS = ("rt", "python3", "gcc", "cargo", "./trace", ".ci/run")
+COMMANDS = ("rt", "python3", "gcc", "cargo", "./trace", ".ci/run", "machine/archive", "machine/x86", "bench/run")
 PLAIN = {"requires", "ensures", "CRATE", "NAME", "bool", "u8", "u16", "u32", "u64", "usize", "i32", "i64", "f64", *COMMANDS}
 KIT = ("std", "io", "libc", "os", "check", "bytes")
 NUMBER = r"\d+(?:\.\d+)?"
@@ -132,7 +134,7 @@ def named(source: Source, promises: str) -> Iterator[Found]:
     """Every span of the promises."""
     for span in spans(promises):
         words = span.words
-        if words.startswith("target/") or " " in words and words.split()[0] in COMMANDS:
+        if BUILT.match(words) or " " in words and words.split()[0] in COMMANDS:
             continue
         if is_path(words):
             wrong = "" if path_there(source, words) else "is not in the repository"
@@ -148,7 +150,7 @@ def pathed(source: Source, text: str) -> Iterator[Found]:
     """The paths of a document, and the items that it names with their crate or type."""
     for span in spans(text):
         words = span.words
-        if is_path(words) and not words.startswith("target/"):
+        if is_path(words) and not BUILT.match(words):
             yield Found(path_there(source, words), span.at, words, "is not in the repository")
         elif ITEM.fullmatch(words) and words.split("::")[0] not in KIT:
             there = all(path in source.short_paths or source.is_module(path) for path in expanded(words))
@@ -224,11 +226,23 @@ def edits(source: Source, promises: str) -> Iterator[Found]:
         yield Found(edit in told, 0, edit, "is an edit that is not named here")
 
 
+def named_at(source: Source, text: str) -> set[tuple[str, str]]:
+    """The names that stand behind a file's colon, each with each such file."""
+    return {(span.words, name) for span in spans(text) if span.file for name in source.at(span.file)}
+
+
 def laws(source: Source, promises: str) -> Iterator[Found]:
-    """A law that no proof uses is a promise."""
-    told = {(span.words, name) for span in spans(promises) if span.file for name in source.at(span.file)}
+    """A law that no proof uses is a promise, or told to be none."""
+    told = named_at(source, promises)
     for law, name in source.unused:
         yield Found((law, name) in told, 0, law, f"of {name} is used by no proof, and is not named here")
+
+
+def spare(source: Source, promises: str) -> Iterator[Found]:
+    """What is told to be used by no proof is so."""
+    start, text = section(promises, SPARE)
+    for law, name in named_at(source, text):
+        yield Found((law, name) in source.unused, start, law, f"of {name} is told to be used by no proof, and is used")
 
 
 def counted(promises: str) -> Found:
@@ -299,11 +313,20 @@ def self_test(source: Source, tally: Tally, promises: str, decisions: str) -> No
     for words in {span.words for span in spans(promises) if span.file}:
         tally.check(not counted(promises.replace(f"`{words}`", "")).good, f"{words} is taken out of the promises, and the count is told to be right")
     laws_of = {
-        "crates/a/proofs/One.antt": "pub own : N\nown zero = 0\nown (suc n) =\n    own n\n\npub idle : N\nidle = 0\n\npub step : N\nstep = 0\n",
-        "crates/a/proofs/Two.antt": "use One.{idle, step}\npub end : N\nend = step\n",
+        "crates/a/proofs/One.antt": "pub own : N\nown zero = 0\nown (suc n) =\n    own n\n\npub idle : N\nidle = 0\n\npub step {ℓ} : N\nstep = 0\n",
+        "crates/a/proofs/Two.antt": "use One.{\n  idle,\n  step,\n}\npub use One.{idle}\npub end : N\nend = step\n\npub lent : N\nlent = 0\n\npub told : N\ntold = 0\n",
+        "crates/a/proofs/f/Answers.antt": "use One.{idle}\npub returns : goal.returns\nreturns c = 0\n",
+        "crates/a/src/lib.rt": "#[tactic(auto, using(crate::proofs::Two::lent,\n    std::proofs::A::b), unfolding(crate::proofs::Two::told))]\nfn idle() {}\n// #[tactic(auto, using(crate::proofs::One::own))]\n",
     }
     dead = [law for law, _ in unused(laws_of)]
-    tally.check(dead == ["own", "idle", "end"], f"of laws that use themselves, are imported and are used are told as unused {dead}")
+    right = ["own", "idle", "end", "told"]
+    tally.check(dead == right, f"of laws that use themselves, are imported, are handed to the check and are used are told as unused {dead}")
+    heads = "pub fn a()\n    requires low { x }\n{\n}\n\npub fn b() {\n    c(requires {})\n}\n\npub fn c()\n    ensures {\n        x\n    }\n    requires* { y }\n{\n}\n"
+    asking = [item.name for item in items(heads, "", "", True) if item.requires]
+    tally.check(asking == ["a", "c"], f"of {heads!r} is told to ask something {asking}")
+    nested = paths_in("use a::{self, b::{c, d as e}, f};\nuse g::{\n    h,\n};\ni::j::k(l)")
+    right = {"a", "a::b::c", "a::b::d", "a::f", "g::h", "i::j::k"}
+    tally.check(right <= nested, f"of paths in braces are told {sorted(nested)}")
     table = "".join(f"| ({number}) | | `crates/line/src/quotient.rt` |\n" for number in (12, 14))
     wrong = [found.name for found in numbered(source, table) if not found.good]
     tally.check(wrong == ["(14) crates/line/src/quotient.rt"], f"of {table!r} is told {wrong}")
@@ -329,7 +352,7 @@ def main() -> None:
             look(name, linked(source, name, source.text(name)))
             look(name, pathed(source, source.text(name)) if name != PROMISES else ())
     promises, decisions = source.text(PROMISES), source.text(DECISIONS)
-    for part in (named, calls, edits, laws):
+    for part in (named, calls, edits, laws, spare):
         look(PROMISES, part(source, promises))
     look(PROMISES, called(source, promises, decisions))
     look(PROMISES, [counted(promises)])

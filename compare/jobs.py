@@ -139,7 +139,7 @@ def differ(number: int, case: Case, stated: bytes, found: Ended) -> str:
 
 
 def main() -> None:
-    asked = machine.asked(__doc__, program=machine.TARGET / "bin" / "trace")
+    asked = machine.asked(__doc__, program=machine.PROGRAM)
     command = machine.words(asked.program)
     tally = Tally()
     listed = list(cases(Random(asked.seed)))

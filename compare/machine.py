@@ -12,6 +12,7 @@ from typing import Optional
 HERE = Path(__file__).resolve().parent
 ROOT = HERE.parent
 TARGET = ROOT / "target"
+PROGRAM = ROOT / "crates" / "trace" / "out" / "trace"  # where rt builds it
 X86 = ROOT / "machine" / "x86"
 
 

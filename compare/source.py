@@ -12,22 +12,29 @@ from typing import Iterator, NamedTuple
 ENDINGS = ("", ".antt", ".rt", ".edit")  # what a document may leave out
 
 # `name : type` at the start of a line, or a record, a data type or a module by its keyword
-DEFINED = re.compile(
-    r"^ *(?:(?:pub|abbrev|unfoldable) )*(?:(?:record|data|module) ([^\s(){}:;,.]+)|([^\s(){}:;,.]+) :(?=\s|$))", re.M
-)
+MARKS = r"^ *(?:(?:pub|abbrev|unfoldable|pattern|axiom) )*"
+SIGNED = r"([^\s(){}:;,.]+)(?: \{[^{}]*\})? :(?=\s|$)"
+DEFINED = re.compile(rf"{MARKS}(?:(?:record|data|module) ([^\s(){{}}:;,.]+)|{SIGNED})", re.M)
 
 # a law of a proof file, the words of a proof, and its imports, of which only a new name is a use
-LAW = re.compile(r"^ *(?:(?:pub|abbrev|unfoldable) )*([^\s(){}:;,.]+) :(?=\s|$)", re.M)
+LAW = re.compile(MARKS + SIGNED, re.M)
 RECORD = re.compile(r"^( *)(?:pub )?record .*\n(?:\1 +.*\n)*", re.M)
 TERM = re.compile(r"[^\s(){}\[\];,.]+")
-IMPORT = re.compile(r"^ *(?:ghost )?use .*$", re.M)
+IMPORT = re.compile(r"^ *(?:(?:pub|unfoldable|ghost) )*use (?:[^{}\n]*\{[^{}]*\}.*|.*)$", re.M)
 RENAMED = re.compile(r"\S+ as \S+")
+ANSWERS = ("Proof.antt", "Invariants.antt", "Answers.antt")  # what a function's folder has; the names in them are no laws
+
+# the laws that a function's attribute hands to the check, each by its path
+ATTRIBUTE = re.compile(r"#!?\[tactic\((?:[^()]|\([^()]*\))*\)\]")
+USING = re.compile(r"\busing\(([^()]*)\)")
 
 MODULE = re.compile(r"^pub mod (\w+);$", re.M)
 OWNER = re.compile(r"^(?:pub )?(?:impl|struct|enum) (\w+)")
+CLAUSE = re.compile(r"\s*(?:requires|ensures)\*?(?: \w+)? \{")  # of a function, with a name or without
+REQUIRES = re.compile(r"^\s*requires\*?(?: \w+)? \{", re.M)
 ITEM = re.compile(r'^(?P<inner>    )?(?P<pub>pub )?(?P<c>extern "C" )?(?P<kind>fn|struct|enum|const) (?P<name>\w+)')
 PART = re.compile(r"^    (?:pub )?(\w+)(?:: .*|\(.*\)| \{.*)?,$")  # a field or a variant
-PATH = re.compile(r"\b\w+(?:::\w+)+(?:::\{[^}]*\})?")
+PATH = re.compile(r"\b\w+(?:::\w+)*(?:::\{|::\w+)")  # up to a brace, where it has one
 
 
 class Item(NamedTuple):
@@ -56,9 +63,36 @@ def expanded(path: str) -> list[str]:
     return [front + name.strip() for name in rest.rstrip("}").split(",")]
 
 
+def paths_in(text: str) -> set[str]:
+    """The paths of a Rattle text, those in braces written out, braces within braces too."""
+    found: set[str] = set()
+    for path in PATH.finditer(text):
+        if not path[0].endswith("{"):
+            found.add(path[0])
+            continue
+        fronts, word, at = [path[0][:-1]], "", path.end()
+        while fronts and at < len(text):
+            sign = text[at]
+            if sign == "{":
+                fronts.append(fronts[-1] + word.strip())
+            elif sign in ",}":
+                name = word.split(" as ")[0].strip()
+                if name:
+                    found.add(fronts[-1].removesuffix("::") if name == "self" else fronts[-1] + name)
+                if sign == "}":
+                    fronts.pop()
+            word = "" if sign in "{,}" else word + sign
+            at += 1
+    return found
+
+
 def header(lines: list[str], at: int) -> str:
     """A function's lines up to its body."""
-    end = next(i for i in range(at, len(lines)) if lines[i].strip() == "{" or lines[i].endswith(" {"))
+
+    def begins_body(line: str) -> bool:
+        return line.strip() == "{" or line.endswith(" {") and not CLAUSE.match(line)
+
+    end = next(i for i in range(at, len(lines)) if begins_body(lines[i]))
     return "\n".join(lines[at:end])
 
 
@@ -72,7 +106,7 @@ def items(text: str, crate: str, module: str, way: bool) -> Iterator[Item]:
         item, part = ITEM.match(line), PART.match(line)
         if item:
             inner = owner if item["inner"] else ""
-            requires = item["kind"] == "fn" and "requires {" in header(lines, at)
+            requires = item["kind"] == "fn" and bool(REQUIRES.search(header(lines, at)))
             yield Item(crate, module, inner, item["name"], item["kind"], way and bool(item["pub"]), bool(item["c"]), requires)
         elif owner and part:
             yield Item(crate, module, owner, part[1], "part", way, False, False)
@@ -81,15 +115,23 @@ def items(text: str, crate: str, module: str, way: bool) -> Iterator[Item]:
 def without(text: str, law: str) -> str:
     """A file less a law's own statement and equations, and all that stands deeper: a law's recursion is no use of it."""
     word = re.escape(law)
-    return re.sub(rf"^( *)(?:(?:pub|abbrev|unfoldable) )*{word} :.*\n(?:\1(?: .*|{word} .*|unfolding .*|[\])}}].*)\n| *\n)*", "", text, flags=re.M)
+    return re.sub(rf"^( *)(?:(?:pub|abbrev|unfoldable|pattern|axiom) )*{word}(?: \{{[^{{}}]*\}})? :.*\n(?:\1(?: .*|{word} .*|unfolding .*|[\])}}].*)\n| *\n)*", "", text, flags=re.M)
+
+
+def used(name: str, text: str) -> str:
+    """What a file has of proofs: a proof file less its comments and imports; of a Rattle file the laws that its attributes name."""
+    if name.endswith(".rt"):
+        given = [path for one in ATTRIBUTE.findall(re.sub(r"//.*", "", text)) for path in USING.findall(one)]
+        return " ".join(path.strip().split("::")[-1] for paths in given for path in paths.split(","))
+    return IMPORT.sub(lambda line: " ".join(RENAMED.findall(line[0])), re.sub(r"--.*", "", text))
 
 
 def unused(texts: dict[str, str]) -> list[tuple[str, str]]:
     """The laws in these files that no other proof of them uses, each with its file."""
-    told = {name: IMPORT.sub(lambda line: " ".join(RENAMED.findall(line[0])), re.sub(r"--.*", "", text)) for name, text in texts.items()}
+    told = {name: used(name, text) for name, text in texts.items()}
     words = {name: set(TERM.findall(text)) for name, text in told.items()}
     found = []
-    for name in (name for name in told if "/proofs/" in name and not name.endswith("/Proof.antt")):
+    for name in (name for name in told if "/proofs/" in name and not name.endswith(ANSWERS)):
         for law in dict.fromkeys(LAW.findall(RECORD.sub("", told[name]))):
             if not any(law in words[other] for other in words if other != name) and law not in TERM.findall(without(told[name], law)):
                 found.append((law, name))
@@ -102,7 +144,7 @@ def listed(root: Path) -> list[str]:
     if shutil.which("git") and (told := subprocess.run(words, capture_output=True, text=True)).returncode == 0:
         return told.stdout.split("\0")
     names = [name.relative_to(root) for name in root.rglob("*")]
-    return [str(name) for name in names if not {"target", ".git", "__pycache__"} & set(name.parts)]
+    return [str(name) for name in names if not {"target", "out", ".git", "__pycache__"} & set(name.parts)]
 
 
 class Source:
@@ -183,7 +225,7 @@ class Source:
         found: set[Item] = set()
         for name in self.matching("crates/*/src/*.rt"):
             text = re.sub(r"//.*", "", self.text(name))
-            paths = {one for path in PATH.findall(text) for one in expanded(path)}
+            paths = paths_in(text)
             found.update(item for item in self.functions if item.crate != name.split("/")[1] and calls(text, paths, item))
         return sorted(found)
 

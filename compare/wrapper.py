@@ -125,12 +125,11 @@ def streams(tally: Tally) -> None:
 # ---- building, in a folder of its own, with an rt that proves nothing
 
 RT = """#!/bin/sh
-echo "rt $*" >>said
-shift
-for name; do
-    [ "$name" != "$REFUSED" ] || { echo "rt: $name NOT PROVED"; exit 1; }
-    [ "$name" != trace ] || { mkdir -p target/bin; : >target/bin/trace; }
-done
+crate=${PWD##*/}
+echo "rt $* in $crate" >>../../said
+[ "$crate" != "$REFUSED" ] || { echo "rt: $crate NOT PROVED"; exit 1; }
+mkdir -p out
+[ "$crate" != trace ] || : >out/trace
 """
 
 
@@ -141,7 +140,8 @@ class Room:
         (root / "machine").mkdir()
         for name in ("trace", "crates.txt"):
             shutil.copy(machine.ROOT / name, root / name)
-        self.stands = {name: on.split() for name, on in re.findall(r"^(\w+):(.*)$", (root / "crates.txt").read_text(), re.M)}
+        listed = re.findall(r"^(\w+)[^:#\n]*:(.*)$", (root / "crates.txt").read_text(), re.M)
+        self.stands = {name: on.split() for name, on in listed}
         for name in self.stands:
             (root / "crates" / name).mkdir(parents=True)
             (root / "crates" / name / "file").touch()
@@ -163,11 +163,13 @@ class Room:
         return said.read_text().splitlines(), ended.stdout, ended.returncode
 
     def changed(self, changed: str) -> None:
-        """The file of this crate alone is newer than the program."""
-        built = (self.root / "target" / "bin" / "trace").stat().st_mtime
+        """The file of this crate alone is newer than the program; what is built is newer in all of them, which changes nothing."""
+        built = (self.root / machine.PROGRAM.relative_to(machine.ROOT)).stat().st_mtime
         for name in self.stands:
-            time = built + (10 if name == changed else -10)
-            os.utime(self.root / "crates" / name / "file", (time, time))
+            folder = self.root / "crates" / name
+            (folder / "out").mkdir(exist_ok=True)
+            for path, time in ((folder / "out", 10), (folder / "file", 10 if name == changed else -10), (folder, -10)):
+                os.utime(path, (built + time, built + time))
 
 
 def levels(stands: dict[str, list[str]]) -> list[list[str]]:
@@ -186,10 +188,9 @@ def transcript(stands: dict[str, list[str]], until: str = "trace") -> list[str]:
     """What is said of a build: each crate before it is proved, by its number."""
     told = ["trace: proving and building the program; the first time takes some minutes"]
     every = sum(levels(stands), [])
-    for level in levels(stands):
-        told += [f"trace: proving {every.index(name) + 1} of {len(every)}: {name}" for name in level]
-        told.append(f"rt check {' '.join(level)}")
-        if until in level:
+    for number, name in enumerate(every, 1):
+        told += [f"trace: proving {number} of {len(every)}: {name}", f"rt {'run' if name == 'trace' else 'lib'} in {name}"]
+        if name == until:
             break
     return told
 
