@@ -3,7 +3,6 @@ use mathlib.Core.Path.{◌∙◌}
 use Rattle.ilvoresta.proofs.Again.{grid_again, ray_again}
 use Rattle.ilvoresta.proofs.ilvoresta_place.Goals as goal
 
--- src/lib.rt
 pub returns : goal.returns
 returns c =
     let f = c.ranges in

@@ -2,7 +2,6 @@
 use Rattle.ilvoresta.proofs.Again.{grid_again, ray_again}
 use Rattle.ilvoresta_c.proofs.ilvoresta_place.Goals as goal
 
--- src/lib.rt
 pub returns : goal.returns
 returns c =
     let a = c.args in

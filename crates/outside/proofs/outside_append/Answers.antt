@@ -6,7 +6,6 @@ use Rattle.ilvoresta.specs.Entry.{six_of}
 use Rattle.outside.specs.Doors.{put}
 use Rattle.outside.proofs.outside_append.Goals as goal
 
--- src/lib.rt
 pub returns : goal.returns
 returns c =
     let f = c.ranges in

@@ -7,7 +7,6 @@ use Rattle.ilvoresta.proofs.Again.{grid_again, ray_again}
 use Rattle.outside.specs.Doors.{put, mark_of, floats_of}
 use Rattle.outside.proofs.outside_points.Goals as goal
 
--- src/lib.rt
 pub returns : goal.returns
 returns c =
     let f = c.ranges in

@@ -3,6 +3,5 @@ use Rattle.outside.specs.Doors.{floats_of}
 use Rattle.outside.proofs.Stored.{stored}
 use Rattle.outside.proofs.put.put_points.Goals as goal
 
--- src/put.rt:19:1
 pub returns-then-floats-eq6 : goal.returns-then-floats-eq6
 returns-then-floats-eq6 c = stored (floats_of c.args.a) c.args.floats.now c.if-floats-eq6.true
