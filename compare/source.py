@@ -29,7 +29,7 @@ ATTRIBUTE = re.compile(r"#!?\[tactic\((?:[^()]|\([^()]*\))*\)\]")
 USING = re.compile(r"\busing\(([^()]*)\)")
 
 MODULE = re.compile(r"^pub mod (\w+);$", re.M)
-OWNER = re.compile(r"^(?:pub )?(?:impl|struct|enum) (\w+)")
+OWNER = re.compile(r"^(?:pub )?(?:impl(?:<[^>]*>)? (?:\S+ for )?|struct |enum |trait )(\w+)")
 CLAUSE = re.compile(r"\s*(?:requires|ensures)\*?(?: \w+)? \{")  # of a function, with a name or without
 REQUIRES = re.compile(r"^\s*requires\*?(?: \w+)? \{", re.M)
 ITEM = re.compile(r'^(?P<inner>    )?(?P<pub>pub )?(?P<c>extern "C" )?(?P<kind>fn|struct|enum|const) (?P<name>\w+)')

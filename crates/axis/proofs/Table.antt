@@ -1,4 +1,4 @@
--- Laws of a table of refusals: two tables joined, code 0, one code in two rows. Assumes nothing.
+-- Laws of a table of refusals: two tables joined, code 0, one code in two rows, a refusal's number. Assumes nothing.
 use Prim.Native.Nat.{ℕ, ◌<◌}
 use mathlib.Core.Path.{◌≡◌, refl, sym, ap, ◌∙◌}
 use mathlib.Core.Bool.{Bool, true, false, ◌&&◌, ◌||◌, cond}
@@ -7,7 +7,13 @@ use native.Mathlib.Omega.{arith}
 use native.Mathlib.Decide.{ℕ_discrete}
 use lib.Dec.{eqb, ltb}
 use borrow.Author.Tests.{ltb-true, eq-eqb, ne_eqb}
-use Rattle.axis.specs.Codes.{Row, first}
+use Rattle.std.specs.Prelude.{Result, Ok, Err}
+use Rattle.std.specs.Result.{IsErrAnd}
+use Rattle.std.specs.List.{list_any}
+use Rattle.axis.specs.declared.refusal.Refusal.{Refusal}
+use Rattle.axis.specs.declared.refusal.Refusal.TheVariants.{Count, Spacing, Planes, Densities, Outside, EqualEnds, Lists, Room, Answer}
+use Rattle.axis.specs.Refusal.{number, number_of}
+use Rattle.axis.specs.Codes.{Row, first, each}
 use Rattle.axis.proofs.Flag.{and_left, and_right}
 
 -- a code that is not 0 is the answer, 0 asks on
@@ -58,3 +64,27 @@ off (r ∷ rs) h e =
 pub either : (c : ℕ) (t u : Bool) (d : ℕ) → cond t c (cond u c d) ≡ cond (t || u) c d
 either c true u d = refl
 either c false u d = refl
+
+-- one code asked of each in turn applies where some one has it
+pub asked : {A : Type 0} (c : ℕ) (test : A → Bool) (xs : List A) (rows : List Row) → first (each c test xs ++ rows) ≡ cond (list_any test xs) c (first rows)
+asked c test [] rows = refl
+asked c test (x ∷ xs) rows = ap (cond (test x) c) (asked c test xs rows) ∙ either c (test x) (list_any test xs) (first rows)
+
+-- a refusal's number tells it from 0
+pub number_some : (r : Refusal) → number r ≡ 0 → ⊥
+number_some r = elim r as (λ s. number s ≡ 0 → ⊥) [
+  | Count ↦ λ e. omega arith
+  | Spacing ↦ λ e. omega arith
+  | Planes ↦ λ e. omega arith
+  | Densities ↦ λ e. omega arith
+  | Outside ↦ λ e. omega arith
+  | EqualEnds ↦ λ e. omega arith
+  | Lists ↦ λ e. omega arith
+  | Room ↦ λ e. omega arith
+  | Answer ↦ λ e. omega arith
+]
+
+-- a refusal handed on by `?`
+pub handed_on : {A : Type 0} (r : Result A Refusal) (x : Refusal) → IsErrAnd r (λ e. e ≡ x) → number_of r ≡ number x
+handed_on (Ok a) x h = absurd h
+handed_on (Err e) x h = ap number h

@@ -1,10 +1,10 @@
 -- RULES 1 and the rows on axes of RULES 6. Definitions only. Assumes nothing.
-use Rattle.std.specs.Prelude.{ℕ, Bool, ◌&&◌, ◌||◌, not, cond, List, [], ◌∷◌, ◌++◌, map, ℤ, pos, neg_ℤ, ltb, eqb}
+use Rattle.std.specs.Prelude.{ℕ, Bool, ◌&&◌, ◌||◌, not, cond, List, [], ◌∷◌, ◌++◌, map, ℤ, pos, neg_ℤ, ltb, eqb, Result, Ok, Err}
 use Rattle.std.specs.Int.Signed.{le_z}
 use Rattle.axis.specs.declared.Axis.{Axis}
 use Rattle.axis.specs.declared.Limits.{Limits}
-use Rattle.axis.specs.declared.Checked.{Checked}
-use Rattle.axis.specs.declared.Checked.TheVariants.{Fine, Refused}
+use Rattle.axis.specs.declared.refusal.Refusal.{Refusal}
+use Rattle.axis.specs.Refusal.{number}
 use Rattle.axis.specs.Leg.{planes}
 
 -- RULES 1: the limits of the device whose unit is a tenth of a millimetre
@@ -44,10 +44,7 @@ axis_rows m axes = each 1 (λ a. beyond m.n a.n) axes ++ each 2 (λ a. beyond m.
 abbrev pub axis_code : Limits → Axis → ℕ
 axis_code m a = first (axis_rows m (a ∷ []))
 
-abbrev pub checked_axis : Limits → Axis → Checked
-checked_axis m a = cond (eqb (axis_code m a) 0) (Fine a) (Refused (axis_code m a))
-
--- RULES 6, the answer in numbers: a fine axis is 0 and its n, d, b, a refused one is its code and zeros
-abbrev pub told : Checked → ℕ × Axis
-told (Fine a) = (0, a)
-told (Refused c) = (c, record { n = 0; d = 0; b = pos 0 })
+-- RULES 6, the answer in numbers: an accepted axis is 0 and its n, d, b, a refused one is its code and zeros
+abbrev pub told : Result Axis Refusal → ℕ × Axis
+told (Ok a) = (0, a)
+told (Err r) = (number r, record { n = 0; d = 0; b = pos 0 })

@@ -1,3 +1,4 @@
 -- One axis.
 pub mod Leg
+pub mod Refusal
 pub mod Codes

@@ -3,7 +3,12 @@
 
 ghost use Rattle.std.specs.Prelude.{◌≡◌, cond, eqb, pos, ◌+ℤ◌};
 ghost use Rattle.axis.specs.Leg.{natural};
-ghost use Rattle.axis.specs.Codes.{tenths, inside, beyond, planes_out, axis_code, checked_axis, told};
+ghost use Rattle.axis.specs.Refusal.{number_of};
+ghost use Rattle.axis.specs.Codes.{tenths, inside, beyond, planes_out, axis_code, told};
+
+pub mod refusal;
+
+use crate::refusal::Refusal;
 
 // n voxels of spacing d from the first plane b on, in units of 0.1 mm. The fields say nothing of the
 // limits: whoever takes an axis checks it.
@@ -22,19 +27,12 @@ pub struct Limits {
     pub coord: u32,
 }
 
-// What the checked constructor answers: the axis, or the code that refuses it.
-#[derive(Clone, Copy)]
-pub enum Checked {
-    Fine(Axis),
-    Refused(u32),
-}
-
 // c + by, and 0 where that is below 0: a coordinate told from the lower limit up, so that what
 // follows is whole numbers without a sign.
 pub fn raised(c: i32, by: u32) -> u64
     ensures { result ≡ natural (c +ℤ pos by) }
 {
-    let sum = (c as i64) + (by as i64);
+    let sum = i64::from(c) + i64::from(by);
     if sum < 0 { 0 } else { sum as u64 }
 }
 
@@ -42,7 +40,7 @@ pub fn raised(c: i32, by: u32) -> u64
 fn beyond(x: u32, most: u32) -> bool
     ensures { result ≡ beyond most x }
 {
-    if x == 0 { true } else { most < x }
+    x == 0 || most < x
 }
 
 impl Limits {
@@ -50,8 +48,9 @@ impl Limits {
     pub fn holds(self, c: i32) -> bool
         ensures { result ≡ inside self c }
     {
-        let top = self.coord as i64;
-        let wide = c as i64;
+        let top = i64::from(self.coord);
+        let wide = i64::from(c);
+        // By the magnitude it takes longer.
         -top <= wide && wide <= top
     }
 }
@@ -88,43 +87,37 @@ impl Axis {
     pub fn planes_out(self, m: Limits) -> bool
         ensures { result ≡ planes_out m self }
     {
-        let b = self.b;
-        if m.holds(b) {
-            let far = raised(b, m.coord) + (self.n as u64) * (self.d as u64);
-            let top = 2 * (m.coord as u64);
-            top < far
-        } else {
-            true
+        if !m.holds(self.b) {
+            return true;
         }
+        let far = raised(self.b, m.coord) + u64::from(self.n) * u64::from(self.d);
+        let top = 2 * u64::from(m.coord);
+        top < far
     }
 
-    // The code that refuses the axis by itself, 0 where it is accepted.
-    pub fn code(self, m: Limits) -> u32
-        ensures { result ≡ axis_code m self }
+    // Whether the axis is accepted by itself.
+    pub fn check(self, m: Limits) -> Result<(), Refusal>
+        ensures { number_of result ≡ axis_code m self }
     {
         if self.count_out(m) {
-            return 1;
+            return Err(Refusal::Count);
         }
         if self.spacing_out(m) {
-            return 2;
+            return Err(Refusal::Spacing);
         }
         if self.planes_out(m) {
-            return 3;
+            return Err(Refusal::Planes);
         }
-        0
+        Ok(())
     }
 
-    pub fn checked(n: u32, d: u32, b: i32) -> Checked
-        ensures value { result ≡ checked_axis tenths (record { n = n; d = d; b = b }) }
+    // The axis where the device takes it.
+    pub fn checked(n: u32, d: u32, b: i32) -> Result<Axis, Refusal>
         ensures code { (told result).0 ≡ axis_code tenths (record { n = n; d = d; b = b }) }
         ensures axis { (told result).1 ≡ cond (eqb (told result).0 0) (record { n = n; d = d; b = b }) (record { n = 0; d = 0; b = pos 0 }) }
     {
         let a = Axis { n, d, b };
-        let code = a.code(Axis::TENTHS);
-        if code == 0 {
-            Checked::Fine(a)
-        } else {
-            Checked::Refused(code)
-        }
+        a.check(Axis::TENTHS)?;
+        Ok(a)
     }
 }

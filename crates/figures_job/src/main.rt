@@ -2,12 +2,11 @@
 // into one byte less.
 #![tactic(auto)]
 
-use job::whole::{Written, job};
+use job::whole::job;
 use std::io;
 
 fn show(rt: &impl Print, input: &[u8], out: &mut [u8]) -> io::Result<()> {
-    let wrote = job(input, out);
-    let Written::All(n) = wrote else {
+    let Some(n) = job(input, out) else {
         return println!(rt; "too little room");
     };
     rt.write_all(&out[..n])

@@ -1,26 +1,29 @@
 // The limits of RULES 1, run: each line is what was tried and the code that answered it.
 #![tactic(auto)]
 
-use axis::{Axis, Checked};
-use ray::check::{ends_code, grid_code};
-use ray::{End, Grid, Ray};
+use axis::Axis;
+use axis::refusal::Refusal;
+use ray::{End, Grid, Ray, check};
 use std::io;
 
 fn say(rt: &impl Print, tried: &str, code: u32) -> io::Result<()> {
     println!(rt; "{tried}: {code}")
 }
 
-// The code of an axis by its checked constructor.
-fn axis_of(n: u32, d: u32, b: i32) -> u32 {
-    let made = Axis::checked(n, d, b);
-    match made {
-        Checked::Fine(_) => 0,
-        Checked::Refused(code) => code,
+fn code_of<T: Drop>(answer: Result<T, Refusal>) -> u32 {
+    match answer {
+        Ok(_) => 0,
+        Err(refusal) => u32::from(refusal),
     }
 }
 
+// The code of an axis by its checked constructor.
+fn axis_of(n: u32, d: u32, b: i32) -> u32 {
+    code_of(Axis::checked(n, d, b))
+}
+
 fn grid_of(x: Axis, y: Axis, z: Axis) -> u32 {
-    grid_code(Axis::TENTHS, Grid { x, y, z })
+    code_of(check::grid(Axis::TENTHS, Grid { x, y, z }))
 }
 
 // The code of a grid whose last axis alone is out of the ordinary.
@@ -33,7 +36,7 @@ fn last_of(n: u32, d: u32, b: i32) -> u32 {
 fn ends_to(z: i32) -> u32 {
     let p = End { x: 0, y: 0, z: 0 };
     let q = End { x: 0, y: 0, z };
-    ends_code(Axis::TENTHS, Ray { p, q })
+    code_of(check::ends(Axis::TENTHS, Ray { p, q }))
 }
 
 fn counts(rt: &impl Print) -> io::Result<()> {
@@ -88,7 +91,11 @@ fn ends(rt: &impl Print) -> io::Result<()> {
         z: 0,
     };
     let both = Ray { p: far, q: far };
-    say(rt, "ends equal and outside", ends_code(Axis::TENTHS, both))
+    say(
+        rt,
+        "ends equal and outside",
+        code_of(check::ends(Axis::TENTHS, both)),
+    )
 }
 
 fn main(rt: HostRuntime) -> io::Result<()> {

@@ -1,21 +1,23 @@
 -- From what the trace answers to what its entry point promises. Assumes nothing.
 use Prim.Native.Nat.{ℕ}
 use mathlib.Core.Path.{◌≡◌, refl, sym, ap, ◌∙◌}
-use mathlib.Core.Bool.{Bool, false}
+use mathlib.Core.Bool.{Bool}
 use mathlib.Core.List.{List}
+use native.Mathlib.Decide.{ℕ_discrete}
+use lib.Dec.{eqb}
 use lib.ListN.{length}
 use borrow.Author.Tests.{eq-eqb, ne_eqb}
 use Rattle.axis.specs.declared.Limits.{Limits}
 use Rattle.axis.specs.Codes.{first}
 use Rattle.axis.proofs.Table.{then, then_stop, then_on, joined}
-use Rattle.ray.specs.declared.Grid.{Grid}
+use Rattle.ray.specs.Axes.{Grid}
 use Rattle.ray.specs.declared.Ray.{Ray}
 use Rattle.ray.specs.Codes.{trace_rows}
 use Rattle.tracing.specs.declared.Trace.{Trace}
-use Rattle.tracing.specs.Answer.{Lists, lent, code_of, voxels_after, parts_after, Answers}
+use Rattle.tracing.specs.Answer.{Lists, lent, code_of, voxels_after, parts_after}
 use Rattle.tracing.specs.Inside.{AnswersWhen}
-use Rattle.tracing.proofs.OneCall.{code_is, fields, when_code, when_refused}
-use Rattle.ilvoresta.specs.Entry.{length_row, trace_code, six_of, Traced}
+use Rattle.tracing.proofs.OneCall.{fields, made, when_code, when_refused}
+use Rattle.ilvoresta.specs.Entry.{length_row, trace_code, after, six_of, Traced}
 
 module _ (m : Limits) (g : Grid) (r : Ray) (l : Lists) (ans : List ℕ) where
   in_turn : trace_code m g r (lent l) (length ans) ≡ then (code_of m g r (lent l)) (first (length_row 6 (length ans)))
@@ -33,23 +35,38 @@ module _ {m : Limits} {g : Grid} {r : Ray} {l : Lists} {ans : List ℕ} {t : Tra
         answer_now = rw (ne_eqb t.code 0 h) refl;
       }
 
-  -- it would not, and the list is not one of six
-  pub other_length : {ready : Bool} → AnswersWhen ready m g r l t vs ps → ready ≡ false → t.code ≡ 0 → (length ans ≡ 6 → ⊥) → Traced m g r l ans 17 vs ps ans
-  other_length {ready} a off e h = record {
-    code_is = sym (in_turn m g r l ans ∙ then_on _ _ (sym (when_code ready a) ∙ e) ∙ rw (ne_eqb (length ans) 6 h) refl);
-    voxels_now = a.voxels_now ∙ rw off refl;
-    parts_now = a.parts_now ∙ rw off refl;
-    answer_now = refl;
-  }
-
-  -- a trace, and the list filled
-  pub traced : Answers m g r l t vs ps → t.code ≡ 0 → length ans ≡ 6 → Traced m g r l ans 0 vs ps (six_of t)
+  -- a trace that is not refused: the length of the list is all that is left
+  pub traced : AnswersWhen (eqb (length ans) 6) m g r l t vs ps → t.code ≡ 0 → {c : ℕ} {ans' : List ℕ} → c ≡ first (length_row 6 (length ans)) → ans' ≡ after c (six_of t) ans
+      → Traced m g r l ans c vs ps ans'
   unfolding voxels_after parts_after
-  traced a e h =
-      let free : code_of m g r (lent l) ≡ 0 = sym (code_is a) ∙ e in
-      record {
-        code_is = sym (in_turn m g r l ans ∙ rw (free, eq-eqb (length ans) 6 h) refl);
-        voxels_now = a.voxels_now ∙ rw free refl;
-        parts_now = a.parts_now ∙ rw free refl;
-        answer_now = ap six_of (fields a e);
-      }
+  traced a e {c} {ans'} k f = elim (ℕ_discrete (length ans) 6) [ yes six ↦ filled six | no other ↦ left other ]
+    where
+      free : code_of m g r (lent l) ≡ 0
+      free = sym (when_code _ a) ∙ e
+
+      code : c ≡ trace_code m g r (lent l) (length ans)
+      code = k ∙ sym (in_turn m g r l ans ∙ then_on _ _ free)
+
+      -- the list has six places, and holds the six numbers
+      filled : length ans ≡ 6 → Traced m g r l ans c vs ps ans'
+      filled six =
+          let b = made a (eq-eqb _ 6 six) in
+          let c_0 : c ≡ 0 = k ∙ rw (eq-eqb _ 6 six) refl in
+          record {
+            code_is = code;
+            voxels_now = rw c_0 (b.voxels_now ∙ rw free refl);
+            parts_now = rw c_0 (b.parts_now ∙ rw free refl);
+            answer_now = rw c_0 (f ∙ rw c_0 (ap six_of (fields b e)));
+          }
+
+      -- it has not, and nothing is written
+      left : (length ans ≡ 6 → ⊥) → Traced m g r l ans c vs ps ans'
+      left other =
+          let off = ne_eqb _ 6 other in
+          let c_17 : c ≡ 17 = k ∙ rw off refl in
+          record {
+            code_is = code;
+            voxels_now = rw c_17 (a.voxels_now ∙ rw off refl);
+            parts_now = rw c_17 (a.parts_now ∙ rw off refl);
+            answer_now = rw c_17 (f ∙ rw c_17 refl);
+          }

@@ -1,6 +1,5 @@
 -- Laws of the C entry points.
 pub mod Again
-pub mod Put
 pub mod Answered
 pub mod Shown
 pub mod Once

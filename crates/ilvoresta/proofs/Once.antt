@@ -6,7 +6,7 @@ use mathlib.Core.List.{List}
 use lib.Ieee.{Float}
 use Rattle.axis.specs.declared.Limits.{Limits}
 use Rattle.axis.proofs.Once.{once}
-use Rattle.ray.specs.declared.Grid.{Grid}
+use Rattle.ray.specs.Axes.{Grid}
 use Rattle.ray.specs.declared.Ray.{Ray}
 use Rattle.tracing.specs.Answer.{Lists}
 use Rattle.ilvoresta.specs.Entry.{after, Traced, Placed}

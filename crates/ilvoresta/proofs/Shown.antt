@@ -8,7 +8,7 @@ use borrow.Author.Tests.{ne_eqb}
 use Rattle.axis.specs.declared.Limits.{Limits}
 use Rattle.axis.specs.Codes.{first}
 use Rattle.axis.proofs.Table.{then, then_stop, then_on, joined}
-use Rattle.ray.specs.declared.Grid.{Grid}
+use Rattle.ray.specs.Axes.{Grid}
 use Rattle.ray.specs.declared.Ray.{Ray}
 use Rattle.ray.specs.Codes.{grid_rows, end_rows}
 use Rattle.place.specs.declared.Place.{Place}

@@ -39,15 +39,8 @@ pub fn grid_of(
 pub fn ray_of(px: i32, py: i32, pz: i32, qx: i32, qy: i32, qz: i32) -> Ray
     ensures { result ≡ ray_of px py pz qx qy qz }
 {
-    let p = End {
-        x: px,
-        y: py,
-        z: pz,
-    };
-    let q = End {
-        x: qx,
-        y: qy,
-        z: qz,
-    };
-    Ray { p, q }
+    Ray {
+        p: End::new(px, py, pz),
+        q: End::new(qx, qy, qz),
+    }
 }

@@ -5,6 +5,7 @@ ghost use Rattle.axis.specs.Codes.{tenths};
 ghost use Rattle.tracing.specs.Answer.{lists};
 ghost use Rattle.ilvoresta.specs.Entry.{grid_of, ray_of, Traced, Placed};
 
+mod fill;
 pub mod given;
 mod placed;
 pub mod traced;

@@ -1,24 +1,27 @@
 // The trace with its answer in a list of six.
-ghost use Rattle.std.specs.Prelude.{◌≡◌, length};
+ghost use Rattle.std.specs.Prelude.{◌≡◌};
 ghost use Rattle.tracing.specs.Answer.{lists};
 ghost use Rattle.tracing.specs.Inside.{Suited};
 ghost use Rattle.ilvoresta.specs.Entry.{six_of, Traced};
 
+use crate::fill::fill;
 use axis::Limits;
 use ray::{Grid, Ray};
 use tracing::Trace;
 use tracing::device::trace_when;
 
-pub fn put_six(t: Trace, answer: &mut [u64])
-    requires { length answer.old ≡ 6 }
-    ensures { answer.new ≡ six_of t }
+// The numbers of RULES 5 from entries on.
+pub fn six_of(t: Trace) -> [u64; 6]
+    ensures { result ≡ six_of t }
 {
-    answer[0] = t.entries as u64;
-    answer[1] = t.crossed;
-    answer[2] = t.span;
-    answer[3] = t.denominator;
-    answer[4] = t.squared;
-    answer[5] = t.sum;
+    [
+        t.entries as u64,
+        t.crossed,
+        t.span,
+        t.denominator,
+        t.squared,
+        t.sum,
+    ]
 }
 
 // Where the answer list has another length nothing may be written: then the trace is only asked for its code.
@@ -34,14 +37,9 @@ pub fn trace_into(
     requires { Suited m }
     ensures { Traced m g r (lists densities.now voxels.old parts.old 0) answer.old result voxels.new parts.new answer.new }
 {
-    let ready = answer.len() == 6;
-    let t = trace_when(m, g, r, densities, voxels, parts, ready);
+    let t = trace_when(m, g, r, densities, voxels, parts, answer.len() == 6);
     if t.code != 0 {
         return t.code;
     }
-    if ready {
-        put_six(t, answer);
-        return 0;
-    }
-    17
+    fill(six_of(t), answer)
 }

@@ -6,13 +6,16 @@ use lib.ListN.{length, take}
 use native.Mathlib.Omega.{arith}
 use borrow.Author.Tests.{ne_eqb}
 use Rattle.text.specs.Line.{line_of}
+use Rattle.text.specs.declared.word.Kind.{Kind}
+use Rattle.text.specs.declared.word.Kind.TheVariants.{Grid, Dens, Own}
+use Rattle.load.specs.Loaded.{kind_number}
 use Rattle.load.specs.Cut.{Begun}
 use Rattle.load.proofs.Cutting.{begun_length, begun_plain}
 use Rattle.job.specs.declared.state.State.{State}
 use Rattle.job.specs.Stand.{stand_of}
 use Rattle.job.specs.Line.{refusal}
 use Rattle.job.specs.Job.{END, at_end, job_from}
-use Rattle.job.specs.Sound.{Sound, due, read}
+use Rattle.job.specs.Move.{due, read}
 use Rattle.job.proofs.Flow.{job_end}
 
 module _ (st : State) {line : List ℕ} (densities : List ℕ) (b : Begun st.have line) where
@@ -33,6 +36,12 @@ module _ (st : State) {line : List ℕ} (densities : List ℕ) (b : Begun st.hav
     pub end_well : due st ≡ 2 → line_of END (st.rays ∷ []) ≡ job_from (stand_of st densities) (take st.have line)
     end_well h = rw (e, h) refl ∙ at_end_lem
 
+-- the line that is due is of another kind than the job's own
+pub not_own : (kind : Kind) {due : ℕ} → (kind ≡ Own → ⊥) → kind_number kind ≡ due → due ≡ 2 → ⊥
+not_own Grid h e f = omega (arith, e, f)
+not_own Dens h e f = omega (arith, e, f)
+not_own Own h e f = h refl
+
 -- ahead of the RAY lines there are few lines
-pub early_number : {st : State} → Sound st → (due st ≡ 2 → ⊥) → read st + 1 < 2 ^ 64
-early_number s h = omega (arith, s.early h, s.load.early, s.load.loaded, s.load.few)
+pub early_number : (st : State) → (due st ≡ 2 → ⊥) → read st + 1 < 2 ^ 64
+early_number st h = let s = st.sound in omega (arith, s.early h, s.load.early, s.load.loaded, s.load.few)

@@ -7,7 +7,6 @@ use Rattle.text.specs.Split.{split}
 use Rattle.text.specs.Decimal.{digits_of, decimal}
 use Rattle.text.specs.Number.{digits, natural_of, has_minus, integer_of}
 use Rattle.text.specs.Numbers.{every}
-use Rattle.text.specs.Word.{same}
 use Rattle.text.specs.Line.{spaced, line_of}
 use Rattle.job.specs.Rays.{traced, passed, cells, ray_text}
 use Rattle.load.specs.Line.{numbers_read, line_read}
@@ -27,7 +26,7 @@ pub example : job_of tenths (
     ++ (67 ∷ 69 ∷ 76 ∷ 76 ∷ 32 ∷ 49 ∷ 32 ∷ 49 ∷ 32 ∷ 48 ∷ 32 ∷ 49 ∷ 48 ∷ 48 ∷ 10 ∷ [])
     ++ (67 ∷ 69 ∷ 76 ∷ 76 ∷ 32 ∷ 50 ∷ 32 ∷ 49 ∷ 32 ∷ 48 ∷ 32 ∷ 50 ∷ 48 ∷ 48 ∷ 10 ∷ [])
     ++ (69 ∷ 78 ∷ 68 ∷ 32 ∷ 49 ∷ 10 ∷ [])
-unfolding part_of misses span_of insert list_to list_of total sum_of crosses crossed_of split digits_of decimal digits natural_of has_minus integer_of every same spaced line_of traced passed cells ray_text numbers_read line_read line_step lines_from job_from job_of
+unfolding part_of misses span_of insert list_to list_of total sum_of crosses crossed_of split digits_of decimal digits natural_of has_minus integer_of every spaced line_of traced passed cells ray_text numbers_read line_read line_step lines_from job_from job_of
 example = refl
 
 -- an empty input ends before the last DENS: BAD 1 22

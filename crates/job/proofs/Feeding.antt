@@ -12,7 +12,7 @@ use borrow.Author.Tests.{ltb-true, leb-true, lt-ltb, le-leb}
 use Rattle.job.specs.declared.state.State.{State}
 use Rattle.job.specs.declared.step.Pumped.{Pumped}
 use Rattle.load.specs.Cut.{Begun}
-use Rattle.job.specs.Sound.{Sound, room}
+use Rattle.job.specs.Sound.{room}
 use Rattle.job.specs.InAll.{Held, starting, Pumping, another}
 use Rattle.job.proofs.Lengths.{AsLong, as_long, still}
 
@@ -40,10 +40,10 @@ pub record Feeding (st : State) (from : ℕ) (piece : List ℕ) (k₀ : Held) (p
   pub first : from ≡ p.next → (p.moved.going ≡ true) × (p.moved.at ≡ 0)
 
 module _ {st : State} {from : ℕ} {piece : List ℕ} {k₀ : Held} where
-  pub feed_begins : Sound st → Begun st.have k₀.line → from ≤ length piece → Feeding st from piece k₀ (starting st 0 from) k₀
-  feed_begins s b h = record {
+  pub feed_begins : Begun st.have k₀.line → from ≤ length piece → Feeding st from piece k₀ (starting st 0 from) k₀
+  feed_begins b h = record {
     kept = as_long;
-    taken = record { sound = s; begun = b; lines = omega arith; counted = omega arith; room = omega arith; back = omega arith; within = h; same = λ later. refl };
+    taken = record { begun = b; lines = omega arith; counted = omega arith; room = omega arith; back = omega arith; within = h; same = λ later. refl };
     first = λ e. (refl, refl);
   }
 
@@ -56,7 +56,6 @@ module _ {st : State} {from : ℕ} {piece : List ℕ} {k₀ : Held} where
     feed_on e on l h = record {
       kept = still f.kept l;
       taken = record {
-        sound = h.sound;
         begun = h.begun;
         lines = omega (arith, f.taken.lines, h.lines);
         counted = omega (arith, f.taken.counted, h.counted);

@@ -16,8 +16,8 @@ use Rattle.load.specs.Line.{line_read}
 use Rattle.load.proofs.Cutting.{until_behind}
 use Rattle.job.specs.Line.{Step, goes, stops, refusal, line_step}
 use Rattle.job.specs.Job.{at_end, and_then, lines_from, job_from}
-use Rattle.job.specs.Sound.{step_is}
-use Rattle.job.specs.Sound as sound
+use Rattle.job.specs.Move.{step_is}
+use Rattle.job.specs.Move as move
 use Rattle.job.specs.InAll.{more}
 
 -- bytes with no LF, up to an LF and up to the end
@@ -64,7 +64,7 @@ until_more sep (x ∷ xs) ys = go (eqb x sep) (until_more sep xs ys)
     go true h = omega arith
     go false h = omega arith
 
-and_then_lem : (printed : List ℕ) (step : Step) (rest : Stand → List ℕ) → printed ++ and_then step rest ≡ and_then (sound.after printed step) rest
+and_then_lem : (printed : List ℕ) (step : Step) (rest : Stand → List ℕ) → printed ++ and_then step rest ≡ and_then (move.after printed step) rest
 and_then_lem printed (goes o s) rest = sym (append_assoc printed o (rest s))
 and_then_lem printed (stops o) rest = refl
 
@@ -78,7 +78,7 @@ module _ (begun here later : List ℕ) where
   on e = sym (append_assoc begun here later) ∙ ap (λ (b : List ℕ). b ++ later) e
 
   pub line_turn : (s : Stand) (going : Bool) (o : List ℕ) (s' : Stand) (printed l rest : List ℕ) → until 10 l ≡ length l → begun ++ here ≡ l ++ (10 ∷ rest)
-      → step_is going o s' ≡ sound.after printed (line_step s l) → printed ++ job_from s (begun ++ (here ++ later)) ≡ o ++ more going (job_from s' (rest ++ later))
+      → step_is going o s' ≡ move.after printed (line_step s l) → printed ++ job_from s (begun ++ (here ++ later)) ≡ o ++ more going (job_from s' (rest ++ later))
   line_turn s going o s' printed l rest plain e f =
       let then : Stand → List ℕ = λ t. job_from t (rest ++ later) in
       ap (λ (b : List ℕ). printed ++ job_from s b) (on e ∙ append_assoc l (10 ∷ rest) later)

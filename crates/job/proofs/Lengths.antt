@@ -17,5 +17,5 @@ module _ {k₀ k : Held} (h : AsLong k₀ k) where
   pub still : {k' : Held} → AsLong k k' → AsLong k₀ k'
   still g = record { line = g.line ∙ h.line; densities = g.densities ∙ h.densities; out = g.out ∙ h.out }
 
-  pub buffers : Buffers (length k₀.line) (length k₀.densities) → Buffers (length k.line) (length k.densities)
-  buffers b = record { line = omega (arith, h.line, b.line); densities = omega (arith, h.densities, b.densities) }
+  pub buffers : Buffers k₀.line k₀.densities k₀.out → Buffers k.line k.densities k.out
+  buffers b = record { line = omega (arith, h.line, b.line); densities = omega (arith, h.densities, b.densities); out = omega (arith, h.out, b.out) }

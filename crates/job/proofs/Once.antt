@@ -4,6 +4,7 @@
 use Prim.Native.Nat.{ℕ, zero, suc, ◌+◌, ◌≤◌}
 use mathlib.Core.Bool.{false}
 use mathlib.Core.List.{List, [], ◌∷◌, ◌++◌, append-nil}
+use mathlib.Core.HLevel.{is_prop→PathP}
 use mathlib.Core.Path.{◌≡◌, refl, ap, sym, ◌∙◌}
 use native.Mathlib.Omega.{arith}
 use lib.ListN.{length, take}
@@ -13,15 +14,16 @@ use Rattle.axis.proofs.Once.{once}
 use Rattle.text.proofs.Once.{put_once}
 use Rattle.job.specs.declared.state.State.{State}
 use Rattle.job.specs.declared.step.Pumped.{Pumped}
-use Rattle.job.specs.declared.whole.Written.{Written}
+use Rattle.std.specs.Prelude.{Option}
+use Rattle.std.proofs.Props.{props}
 use Rattle.load.specs.Cut.{Begun}
 use Rattle.job.specs.Stand.{Stand, at_first, stand_of}
 use Rattle.job.specs.Job.{job_from, job_of}
 use Rattle.job.specs.Read.{written}
-use Rattle.job.specs.Sound.{room}
+use Rattle.job.specs.Sound.{Sound, room}
 use Rattle.job.specs.InAll.{Held, Alike}
 
-pub job_once : (m : Limits) (input : List ℕ) (room : ℕ) (r s : Written) (out out' : List ℕ)
+pub job_once : (m : Limits) (input : List ℕ) (room : ℕ) (r s : Option ℕ) (out out' : List ℕ)
     → r ≡ written (job_of m input) room → (length (job_of m input) ≤ room → take (length (job_of m input)) out ≡ job_of m input)
     → s ≡ written (job_of m input) room → (length (job_of m input) ≤ room → take (length (job_of m input)) out' ≡ job_of m input)
     → (r ≡ s) × (length (job_of m input) ≤ room → take (length (job_of m input)) out ≡ take (length (job_of m input)) out')
@@ -31,15 +33,22 @@ none_filled : (n : ℕ) → take {A = ℕ} n (0 ∷ []) ≡ [] → n ≡ 0
 none_filled zero e = refl
 none_filled (suc n) e = let z : ◌≡◌ {A = ℕ} 0 1 = cc in absurd (omega arith)
 
+-- states are equal where their numbers are: the fact that they carry has one proof
+same_state : (r s : State) → r.load ≡ s.load → r.rays ≡ s.rays → r.have ≡ s.have → r ≡ s
+same_state r s e f g = λ i. record {
+  load = e i;
+  rays = f i;
+  have = g i;
+  sound = is_prop→PathP (λ j. Sound (e j) (f j)) (λ j. hlevel props) r.sound s.sound i;
+}
+
 pub new_once : (m : Limits) (r s : State) → ((ds : List ℕ) → stand_of r ds ≡ at_first m) → r.have ≡ 0 → ((ds : List ℕ) → stand_of s ds ≡ at_first m) → s.have ≡ 0 → r ≡ s
 new_once m r s x h y k =
     let e : (ds : List ℕ) → stand_of r ds ≡ stand_of s ds = λ ds. once (x ds) (y ds) in
     let empty : (st : State) → ((ds : List ℕ) → stand_of st ds ≡ at_first m) → st.load.filled ≡ 0 = λ st z. none_filled st.load.filled (ap (λ (t : Stand). t.load.densities) (z (0 ∷ []))) in
-    λ i. record {
-      load = record { limits = (e [] i).load.limits; grid = (e [] i).load.grid; lines = (e [] i).load.lines; left = (e [] i).load.left; filled = once (empty r x) (empty s y) i };
-      rays = (e [] i).rays;
-      have = once h k i;
-    }
+    same_state r s
+    (λ i. record { limits = (e [] i).load.limits; grid = (e [] i).load.grid; lines = (e [] i).load.lines; left = (e [] i).load.left; filled = once (empty r x) (empty s y) i })
+    (λ i. (e [] i).rays) (once h k)
 
 -- `finish`, where a line has begun as the state says: the place behind what is printed, and all bytes ahead of it
 pub finish_once : (st : State) (before line densities : List ℕ) (at r r' : ℕ) (out out' : List ℕ) → at + room ≤ length out → at + room ≤ length out' → Begun st.have line

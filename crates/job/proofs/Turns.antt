@@ -16,17 +16,17 @@ use Rattle.job.specs.declared.state.State.{State}
 use Rattle.job.specs.declared.state.Moved.{Moved}
 use Rattle.job.specs.Stand.{stand_of}
 use Rattle.job.specs.Line.{line_step}
-use Rattle.job.specs.Sound.{Sound, Ready, Kept, came_to, after, read}
+use Rattle.job.specs.Sound.{Sound}
+use Rattle.job.specs.Move.{Ready, Kept, came_to, after, read}
 use Rattle.job.specs.InAll.{Held, held, starting, Alike, Pumping}
 use Rattle.job.proofs.Flow.{line_turn, more_turn, long_turn}
 
 -- the same state with so many bytes of the next line
-abbrev pub with : State → ℕ → State
-with st have = record { load = st.load; rays = st.rays; have = have }
+abbrev pub with : (st : State) → ℕ → Sound st.load st.rays → State
+with st have s = record { load = st.load; rays = st.rays; have = have; sound = s }
 
 -- the piece is at hand from `from` on, and is cut into this
 pub record Turn (st : State) (at from : ℕ) (piece : List ℕ) (k : Held) (cut : Cut) (line : List ℕ) : Type 0 where
-  pub sound : Sound st
   pub ready : Ready st at (length k.out)
   pub within : from ≤ length piece
   pub parted : CutInto cut (take st.have k.line) piece from line
@@ -36,18 +36,14 @@ module _ {st : State} {at from : ℕ} {piece line : List ℕ} {k : Held} where
   as_cut e h = subst (λ (t : Cut). Turn st at from piece k t line) e h
 
   module _ {cut : Cut} (t : Turn st at from piece k cut line) where
-    pub sound_with : (have : ℕ) → Sound (with st have)
-    sound_with have = record { suited = t.sound.suited; load = t.sound.load; early = t.sound.early }
-
-    pub ready_with : (have : ℕ) → Ready (with st have) at (length k.out)
+    pub ready_with : (have : ℕ) {s : Sound st.load st.rays} → Ready (with st have s) at (length k.out)
     ready_with have = record { room = t.ready.room; number = t.ready.number }
 
     -- the line is done with, by an answer or by a refusal
-    done : {m : Moved} {next : ℕ} {k' : Held} → Kept (with st 0) at m → read m.state + from ≤ read st + next → from ≤ next → next ≤ length piece
+    done : {s : Sound st.load st.rays} {m : Moved} {next : ℕ} {k' : Held} → Kept (with st 0 s) at m → read m.state + from ≤ read st + next → from ≤ next → next ≤ length piece
         → Alike piece (starting st at from) k (record { moved = m; next = next }) k' → Pumping st at from piece k (record { moved = m; next = next }) k'
     unfolding until
     done kept lines back within same = record {
-      sound = kept.sound;
       begun = record { short = omega (arith, kept.have); unended = rw kept.have refl };
       lines = lines;
       counted = omega (arith, kept.have);
@@ -57,10 +53,10 @@ module _ {st : State} {at from : ℕ} {piece line : List ℕ} {k : Held} where
       same = same;
     }
 
-  pub answered : {len next : ℕ} {m : Moved} {densities out : List ℕ} → Turn st at from piece k (Line len next) line → Kept (with st 0) at m
+  pub answered : {s : Sound st.load st.rays} {len next : ℕ} {m : Moved} {densities out : List ℕ} → Turn st at from piece k (Line len next) line → Kept (with st 0 s) at m
       → came_to m out densities ≡ after (take at k.out) (line_step (stand_of st k.densities) (take len line))
       → Pumping st at from piece k (record { moved = m; next = next }) (held line densities out)
-  answered {len} {next} {m} {densities} {out} t kept step =
+  answered {len = len} {next = next} {m = m} {densities = densities} {out = out} t kept step =
       let w = t.parted in
       done t kept (omega (arith, kept.lines, w.2)) (omega (arith, w.2)) w.3
       (λ later.
@@ -68,18 +64,17 @@ module _ {st : State} {at from : ℕ} {piece line : List ℕ} {k : Held} where
       (take at k.out) (take len line) (drop next piece) (begun_plain w.0) w.1 step
       ∙ rw kept.have refl)
 
-  pub refused : {m : Moved} {densities out : List ℕ} → Turn st at from piece k Long line → Kept (with st 0) at m → m.state ≡ with st 0 → m.going ≡ false
+  pub refused : {s : Sound st.load st.rays} {m : Moved} {densities out : List ℕ} → Turn st at from piece k Long line → Kept (with st 0 s) at m → m.state ≡ with st 0 s → m.going ≡ false
       → take m.at out ≡ take at k.out ++ bad_line (read st) 20 → Pumping st at from piece k (record { moved = m; next = length piece }) (held line densities out)
   refused t kept is g e =
       done t kept (omega (arith, t.within, ap read is)) t.within (omega arith)
       (λ later. long_turn (take st.have k.line) (drop from piece) later (stand_of st k.densities) (take at k.out) _ t.parted g e)
 
   -- the piece is used up
-  pub used_up : {len : ℕ} → Turn st at from piece k (More len) line → Pumping st at from piece k (starting (with st len) at (length piece)) (held line k.densities k.out)
-  used_up {len} t =
+  pub used_up : {s : Sound st.load st.rays} {len : ℕ} → Turn st at from piece k (More len) line → Pumping st at from piece k (starting (with st len s) at (length piece)) (held line k.densities k.out)
+  used_up {len = len} t =
       let begun = begun_length t.parted.0 in
       record {
-        sound = sound_with t len;
         begun = t.parted.0;
         lines = omega (arith, t.within);
         counted = omega (arith, t.within, begun, ap length t.parted.1, length-append (take st.have k.line) (drop from piece), length-take st.have k.line, length-drop from piece);

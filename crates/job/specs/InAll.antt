@@ -5,7 +5,8 @@ use Rattle.job.specs.declared.state.State.{State}
 use Rattle.job.specs.declared.step.Pumped.{Pumped}
 use Rattle.job.specs.Stand.{stand_of}
 use Rattle.job.specs.Job.{job_from}
-use Rattle.job.specs.Sound.{Sound, read, room}
+use Rattle.job.specs.Sound.{room}
+use Rattle.job.specs.Move.{read}
 
 -- what stands in the lists lent
 pub record Held : Type 0 where
@@ -42,7 +43,6 @@ Alike piece p k p' k' = (later : List ℕ) → in_all p k piece later ≡ in_all
 -- The piece is taken in from `from` on and answered behind `at`. Each line that is read took a byte of the piece, and so did each byte
 -- that stands of the next line.
 pub record Pumping (st : State) (at from : ℕ) (piece : List ℕ) (k : Held) (r : Pumped) (k' : Held) : Type 0 where
-  pub sound : Sound r.moved.state
   pub begun : Begun r.moved.state.have k'.line
   pub lines : read r.moved.state + from ≤ read st + r.next
   pub counted : read r.moved.state + r.moved.state.have + from ≤ read st + st.have + r.next
@@ -58,7 +58,6 @@ another p piece out = p.moved.going && (ltb p.next piece && leb room (out - p.mo
 -- The next part of the output is answered from the start of the list `out`, up to the end of the input or not, and then the job goes
 -- on behind it or is over.
 pub record Turned (input : List ℕ) (st : State) (next : ℕ) (k : Held) (r : Pumped) (k' : Held) : Type 0 where
-  pub sound : Sound r.moved.state
   pub begun : Begun r.moved.state.have k'.line
   pub counted : read r.moved.state + r.moved.state.have ≤ r.next
   pub within : r.next ≤ length input

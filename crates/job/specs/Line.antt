@@ -1,7 +1,6 @@
 -- RULES 10.3 and 10.4: what a line is answered, and where the job then stands. Definitions only. Assumes nothing.
-use Rattle.std.specs.Prelude.{ℕ, ◌+◌, List, [], ℤ, pos, drop, get_or}
-use Rattle.std.proofs.Math.Option.{Option, none, some, map}
-use Rattle.ray.specs.declared.End.{End}
+use Rattle.std.specs.Prelude.{ℕ, ◌+◌, List, [], ℤ, pos, drop, get_or, Option, None, Some, option_map}
+use Rattle.ray.specs.Axes.{End}
 use Rattle.ray.specs.declared.Ray.{Ray}
 use Rattle.text.specs.Split.{split}
 use Rattle.text.specs.Number.{integer_of}
@@ -28,11 +27,11 @@ ray_of ends = let c : ℕ → ℤ = λ i. get_or ends i (pos 0) in record { p = 
 
 -- RULES 10.1 and 10.2: the six fields behind the word, where each is a number
 abbrev pub ray_in : List (List ℕ) → Option Ray
-ray_in fields = map ray_of (every integer_of 6 (drop 1 fields))
+ray_in fields = option_map ray_of (every integer_of 6 (drop 1 fields))
 
 abbrev pub ray_step : Stand → Option Ray → Step
-ray_step s none = stops (refusal s 24)
-ray_step s (some r) = goes (ray_text s.load.limits s.load.grid s.load.densities r) (record { load = s.load; rays = s.rays + 1 })
+ray_step s None = stops (refusal s 24)
+ray_step s (Some r) = goes (ray_text s.load.limits s.load.grid s.load.densities r) (record { load = s.load; rays = s.rays + 1 })
 
 -- what a line comes to that the loader takes in, refuses, or leaves to the job
 abbrev pub step_of : Stand → List ℕ → Reading → Step

@@ -5,43 +5,29 @@ ghost use Rattle.text.specs.Split.{split};
 ghost use Rattle.job.specs.Stand.{stand_of};
 ghost use Rattle.job.specs.Rays.{traced, passed, cell, cells, ray_text};
 ghost use Rattle.job.specs.Line.{ray_in, ray_step};
-ghost use Rattle.job.specs.Sound.{Taken, Sound, Ready, Kept, due, came_to, after, room};
-ghost use Rattle.job.specs.Read.{read_ray};
+ghost use Rattle.job.specs.Sound.{Taken, room};
+ghost use Rattle.job.specs.Move.{Ready, Kept, due, came_to, after};
 
 use crate::state::{Moved, State};
 use axis::Limits;
+use load::refusal::Bad;
 use ray::{End, Grid, Ray};
-use text::numbers::integers;
+use text::numbers::{Signed, numbers};
 use text::put::put_line;
 use tracing::Trace;
 use tracing::device::trace;
 
 // The numbers of a RAY line.
-#[derive(Clone, Copy)]
-pub enum RayLine {
-    Ends(Ray),
-    Bad,
-}
-
-fn ray_in(line: &[u8]) -> RayLine
-    ensures { result ≡ read_ray (ray_in (split 9 line.now)) }
+fn ray_in(line: &[u8]) -> Option<Ray>
+    ensures { result ≡ ray_in (split 9 line.now) }
 {
-    let mut c: [i32; 6] = [0; 6];
-    if integers(line, 0, 6, &mut c) {
-        return RayLine::Ends(Ray {
-            p: End {
-                x: c[0],
-                y: c[1],
-                z: c[2],
-            },
-            q: End {
-                x: c[3],
-                y: c[4],
-                z: c[5],
-            },
-        });
-    }
-    RayLine::Bad
+    let mut c = [0i32; 6];
+    numbers(Signed, line, 0, &mut c)?;
+    let [px, py, pz, qx, qy, qz] = c;
+    Some(Ray {
+        p: End::new(px, py, pz),
+        q: End::new(qx, qy, qz),
+    })
 }
 
 // The trace of a ray through a grid that the job takes: 600 places are never too few.
@@ -66,13 +52,11 @@ fn put_cell(g: Grid, voxel: u32, part: u64, out: &mut [u8], at: usize) -> usize
     ensures upper_bound { result ≤ at + 89 }
     ensures out_after { take result out.new ≡ take at out.old ++ cell (volume g) voxel part }
 {
-    let x = g.x;
-    let y = g.y;
-    let i = voxel % x.n;
-    let rows = voxel / x.n;
-    let j = rows % y.n;
-    let k = rows / y.n;
-    put_line(out, at, b"CELL", &[i as u64, j as u64, k as u64, part])
+    let rows = voxel / g.x.n;
+    let i = u64::from(voxel % g.x.n);
+    let j = u64::from(rows % g.y.n);
+    let k = u64::from(rows / g.y.n);
+    put_line(out, at, b"CELL", &[i, j, k, part])
 }
 
 fn put_cells(g: Grid, voxels: &[u32], parts: &[u64], out: &mut [u8], at: usize) -> usize
@@ -80,11 +64,9 @@ fn put_cells(g: Grid, voxels: &[u32], parts: &[u64], out: &mut [u8], at: usize) 
     ensures upper_bound { result ≤ at + 89 * length voxels.now }
     ensures out_after { take result out.new ≡ take at out.old ++ cells (volume g) voxels.now parts.now }
 {
-    let mut e = 0;
     let mut to = at;
-    while e < voxels.len() {
-        to = put_cell(g, voxels[e], parts[e], out, to);
-        e += 1;
+    for (voxel, part) in voxels.iter().zip(parts) {
+        to = put_cell(g, *voxel, *part, out, to);
     }
     to
 }
@@ -98,9 +80,8 @@ fn put_ray(m: Limits, g: Grid, r: Ray, densities: &[u16], out: &mut [u8], at: us
     let mut parts: [u64; 600] = [0; 600];
     let t = traced_ray(m, g, r, densities, &mut voxels, &mut parts);
     let n = t.entries;
-    let code = t.code as u64;
     let figures = [
-        code,
+        u64::from(t.code),
         n as u64,
         t.crossed,
         t.span,
@@ -113,21 +94,24 @@ fn put_ray(m: Limits, g: Grid, r: Ray, densities: &[u16], out: &mut [u8], at: us
 }
 
 pub fn take_ray(st: State, line: &[u8], densities: &[u16], out: &mut [u8], at: usize) -> Moved
-    requires { Sound st × Ready st at (length out.old) × (due st ≡ 2) × (4096 ≤ length densities.now) }
+    requires { Ready st at (length out.old) × (due st ≡ 2) × (4096 ≤ length densities.now) }
     ensures kept { Kept st at result }
     ensures densities_after { came_to result out.new densities.now ≡ after (take at out.old) (ray_step (stand_of st densities.now) (ray_in (split 9 line.now))) }
 {
-    let read = ray_in(line);
-    let RayLine::Ends(r) = read else {
-        return st.refuse(24, out, at);
+    let Some(r) = ray_in(line) else {
+        return st.refuse(u32::from(Bad::Number), out, at);
     };
     let load = st.load;
-    let m = load.limits;
-    let g = load.grid;
-    let filled = load.filled;
-    let to = put_ray(m, g, r, &densities[..filled], out, at);
+    let to = put_ray(
+        load.limits,
+        load.grid,
+        r,
+        &densities[..load.filled],
+        out,
+        at,
+    );
     let mut next = st;
-    next.rays = st.rays + 1;
+    next.rays += 1;
     Moved {
         state: next,
         at: to,

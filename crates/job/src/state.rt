@@ -1,9 +1,5 @@
 // Where the job stands, and what a line moves it to.
-ghost use Rattle.std.specs.Prelude.{◌≡◌, false, List, ◌++◌, ℕ, length, take};
-ghost use Rattle.tracing.specs.Inside.{Suited};
-ghost use Rattle.load.specs.Line.{bad_line};
-ghost use Rattle.job.specs.Stand.{at_first, stand_of};
-ghost use Rattle.job.specs.Sound.{Sound, Ready, Kept, read};
+ghost use Rattle.job.specs.Sound.{Sound};
 
 use axis::Limits;
 use load::bad::put_bad;
@@ -16,9 +12,11 @@ pub struct State {
     pub load: Load,
     pub rays: u64,
     pub have: usize,
+    pub ghost sound: { Sound load rays },
 }
 
-// The state behind a line, where the output now ends, and whether the job goes on.
+// The state behind a line, where the output now ends, and whether the job goes on. The state is there where it does not, too: `feed`
+// promises what has been read of it (`Pumping`).
 #[derive(Clone, Copy)]
 pub struct Moved {
     pub state: State,
@@ -27,11 +25,17 @@ pub struct Moved {
 }
 
 impl State {
+    ghost use Rattle.std.specs.Prelude.{◌≡◌, false, List, ◌++◌, ℕ, length, take};
+    ghost use Rattle.tracing.specs.Inside.{Suited};
+    ghost use Rattle.load.specs.Line.{bad_line};
+    ghost use Rattle.job.specs.Stand.{at_first, stand_of};
+    ghost use Rattle.job.specs.Move.{Ready, Kept, read};
+
     // Nothing is read.
     pub fn new(m: Limits) -> State
         requires { Suited m }
         ensures stands { (ds : List ℕ) → stand_of result ds ≡ at_first m }
-        ensures sound { Sound result × (result.have ≡ 0) }
+        ensures unbegun { result.have ≡ 0 }
     {
         State {
             load: Load::new(m),
@@ -42,12 +46,11 @@ impl State {
 
     // Refuses the next line: BAD, the number of that line, and the code.
     pub fn refuse(self, code: u32, out: &mut [u8], at: usize) -> Moved
-        requires { Sound self × Ready self at (length out.old) }
+        requires { Ready self at (length out.old) }
         ensures state_value { (result.state ≡ self) × (result.going ≡ false) × Kept self at result }
         ensures out_after { take result.at out.new ≡ take at out.old ++ bad_line (read self) code }
     {
-        let load = self.load;
-        let to = put_bad(load.lines + self.rays, code, out, at);
+        let to = put_bad(self.load.lines + self.rays, code, out, at);
         Moved {
             state: self,
             at: to,

@@ -4,29 +4,29 @@ ghost use Rattle.load.specs.Cut.{Begun};
 ghost use Rattle.job.specs.Stand.{stand_of};
 ghost use Rattle.job.specs.Line.{line_step};
 ghost use Rattle.job.specs.Job.{job_from};
-ghost use Rattle.job.specs.Sound.{Sound, Buffers, Ready, Kept, came_to, after, read, room};
+ghost use Rattle.job.specs.Sound.{Buffers, room};
+ghost use Rattle.job.specs.Move.{Ready, Kept, came_to, after, read};
 ghost use Rattle.job.specs.InAll.{held, Pumping};
 
 use crate::rays::take_ray;
 use crate::state::{Moved, State};
 use load::bad::put_bad;
 use load::cut::{Cut, cut_line};
-use load::line::Took;
+use load::refusal::Bad;
 use text::put::put_line;
+use text::word::Kind;
 
 // The most bytes that one line prints: whoever lends the output leaves so much room behind `at`.
 pub const ROOM: usize = 53551;
 
 // Answers a line of at most 4096 bytes, its LF left out. A RAY line has seven fields.
 fn take_line(st: State, line: &[u8], densities: &mut [u16], out: &mut [u8], at: usize) -> Moved
-    requires { Sound st × Ready st at (length out.old) × (4096 ≤ length densities.old) × (length line.now ≤ 4096) }
+    requires { Ready st at (length out.old) × (4096 ≤ length densities.old) × (length line.now ≤ 4096) }
     ensures kept { Kept st at result }
     ensures densities_after { came_to result out.new densities.new ≡ after (take at out.old) (line_step (stand_of st densities.old) line.now) }
 {
-    let load = st.load;
-    let took = load::line::take_line(load, line, b"RAY", 7, densities);
-    match took {
-        Took::In(load) => Moved {
+    match load::line::take_line(st.load, line, b"RAY", 7, densities) {
+        Ok(Some(load)) => Moved {
             state: State {
                 load,
                 rays: st.rays,
@@ -35,8 +35,8 @@ fn take_line(st: State, line: &[u8], densities: &mut [u16], out: &mut [u8], at: 
             at,
             going: true,
         },
-        Took::Bad(code) => st.refuse(code, out, at),
-        Took::Own => take_ray(st, line, densities, out, at),
+        Ok(None) => take_ray(st, line, densities, out, at),
+        Err(bad) => st.refuse(u32::from(bad), out, at),
     }
 }
 
@@ -59,15 +59,14 @@ pub fn pump(
     out: &mut [u8],
     at: usize,
 ) -> Pumped
-    requires { Sound st × Begun st.have line.old × Ready st at (length out.old) × Buffers (length line.old) (length densities.old) × (from ≤ length piece.now) }
+    requires { Begun st.have line.old × Buffers line.old densities.old out.old × Ready st at (length out.old) × (from ≤ length piece.now) }
     ensures from_lt_next { from < length piece.now → from < result.next }
     ensures pumping { Pumping st at from piece.now (held line.old densities.old out.old) result (held line.new densities.new out.new) }
 {
     let end = piece.len();
-    let part = cut_line(line, st.have, piece, from);
     let mut fresh = st;
     fresh.have = 0;
-    match part {
+    match cut_line(line, st.have, piece, from) {
         Cut::Line { len, next } => {
             let moved = take_line(fresh, &line[..len], densities, out, at);
             Pumped { moved, next }
@@ -84,24 +83,24 @@ pub fn pump(
             }
         },
         Cut::Long => {
-            let moved = fresh.refuse(20, out, at);
+            let moved = fresh.refuse(u32::from(Bad::Long), out, at);
             Pumped { moved, next: end }
         },
     }
 }
 
-// Answers the end of the input.
+// Answers the end of the input. A line that the input stops in has the code of one that is too long.
 pub fn finish(st: State, out: &mut [u8], at: usize) -> usize
-    requires { Sound st × (at + room ≤ length out.old) × (read st + st.have < 2 ^ 64) }
+    requires { (at + room ≤ length out.old) × (read st + st.have < 2 ^ 64) }
     ensures upper_bound { result ≤ at + room }
     ensures printed { (line densities : List ℕ) → Begun st.have line → take result out.new ≡ take at out.old ++ job_from (stand_of st densities) (take st.have line) }
 {
-    let load = st.load;
+    let lines = st.load.lines + st.rays;
     if st.have != 0 {
-        return put_bad(load.lines + st.rays, 20, out, at);
+        return put_bad(lines, u32::from(Bad::Long), out, at);
     }
-    if load.due() != 2 {
-        return put_bad(load.lines + st.rays, 22, out, at);
+    if st.load.due() != Kind::Own {
+        return put_bad(lines, u32::from(Bad::Due), out, at);
     }
     put_line(out, at, b"END", &[st.rays])
 }

@@ -4,22 +4,16 @@ ghost use Rattle.axis.specs.Codes.{tenths};
 ghost use Rattle.load.specs.Cut.{Begun};
 ghost use Rattle.job.specs.Stand.{stand_of};
 ghost use Rattle.job.specs.Job.{job_from, job_of};
-ghost use Rattle.job.specs.Sound.{Sound, Buffers, read, room};
+ghost use Rattle.job.specs.Sound.{Buffers};
+ghost use Rattle.job.specs.Move.{read};
 ghost use Rattle.job.specs.InAll.{held, Turned};
 ghost use Rattle.job.specs.Read.{written, Wrote};
 
 use crate::feed::feed;
 use crate::state::{Moved, State};
-use crate::step::{Pumped, finish};
+use crate::step::{Pumped, ROOM, finish};
 use axis::Axis;
 use text::put::put_bytes;
-
-// What writing the job's output came to: all of it, so many bytes, or the room did not suffice.
-#[derive(Clone, Copy)]
-pub enum Written {
-    All(usize),
-    Short,
-}
 
 // The next part of the job's output, from the start of answer: what the input from `next` on is
 // answered, or the end of the input.
@@ -31,8 +25,8 @@ fn turn(
     densities: &mut [u16],
     answer: &mut [u8],
 ) -> Pumped
-    requires sound { Sound st × Begun st.have line.old × Buffers (length line.old) (length densities.old) }
-    requires room_in_bounds { (room ≤ length answer.old) × (next ≤ length input.now) × (read st + st.have ≤ next) }
+    requires lent { Begun st.have line.old × Buffers line.old densities.old answer.old }
+    requires number { (next ≤ length input.now) × (read st + st.have ≤ next) }
     ensures { Turned input.now st next (held line.old densities.old answer.old) result (held line.new densities.new answer.new) }
 {
     if next < input.len() {
@@ -49,8 +43,9 @@ fn turn(
     }
 }
 
-// Writes what the job prints from its first line on. The output goes through `answer`, so that it is
-// known to fit before it is put behind the rest.
+// Writes what the job prints from its first line on, and says how many bytes that is; None where
+// the room does not suffice. The output goes through `answer`, so that it is known to fit before it
+// is put behind the rest.
 fn run(
     st: State,
     input: &[u8],
@@ -58,38 +53,38 @@ fn run(
     densities: &mut [u16],
     answer: &mut [u8],
     out: &mut [u8],
-) -> Written
-    requires sound { Sound st × (read st ≡ 0) × (st.have ≡ 0) }
-    requires buffers { Buffers (length line.old) (length densities.old) × (room ≤ length answer.old) }
+) -> Option<usize>
+    requires unread { (read st ≡ 0) × (st.have ≡ 0) }
+    requires buffers { Buffers line.old densities.old answer.old }
     ensures { Wrote (job_from (stand_of st densities.old) input.now) (length out.old) out.new result }
 {
     let mut here = st;
-    let mut next: usize = 0;
-    let mut to: usize = 0;
-    let mut going = true;
-    while going {
+    let mut next = 0;
+    let mut to = 0;
+    loop {
         let p = turn(here, line, input, next, densities, answer);
         let m = p.moved;
-        let n = m.at;
-        if out.len() - to < n {
-            return Written::Short;
+        if out.len() - to < m.at {
+            return None;
         }
-        to = put_bytes(out, to, &answer[..n]);
+        to = put_bytes(out, to, &answer[..m.at]);
+        if !m.going {
+            return Some(to);
+        }
         here = m.state;
         next = p.next;
-        going = m.going;
     }
-    Written::All(to)
 }
 
-// Writes what the job prints on this input, in tenths of a millimetre, into out, where it has room for all of it.
-pub fn job(input: &[u8], out: &mut [u8]) -> Written
+// Writes what the job prints on this input, in tenths of a millimetre, into out, and says how many
+// bytes that is; None where out has no room for all of it.
+pub fn job(input: &[u8], out: &mut [u8]) -> Option<usize>
     ensures value { result ≡ written (job_of tenths input.now) (length out.old) }
     ensures out_after { length (job_of tenths input.now) ≤ length out.old → take (length (job_of tenths input.now)) out.new ≡ job_of tenths input.now }
 {
     let mut line: [u8; 4096] = [0; 4096];
     let mut densities: [u16; 4096] = [0; 4096];
-    let mut answer: [u8; 53551] = [0; 53551];
+    let mut answer: [u8; ROOM] = [0; ROOM];
     let st = State::new(Axis::TENTHS);
     run(st, input, &mut line, &mut densities, &mut answer, out)
 }

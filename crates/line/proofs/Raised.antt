@@ -11,23 +11,26 @@ use Rattle.axis.specs.declared.Limits.{Limits}
 use Rattle.axis.specs.Codes.{inside, first}
 use Rattle.axis.proofs.Shift.{shift_is, shift_add, low_add}
 use Rattle.axis.proofs.Bounds.{inside_low, inside_most}
-use Rattle.ray.specs.declared.Grid.{Grid}
+use Rattle.ray.specs.Axes.{Grid}
 use Rattle.ray.specs.declared.Ray.{Ray}
-use Rattle.ray.specs.Length.{Side, X, Y, Z, leg, d_of, volume}
+use Rattle.ray.specs.Side.{of_side}
+use Rattle.ray.specs.declared.axes.Side.{Side}
+use Rattle.ray.specs.declared.axes.Side.TheVariants.{X, Y, Z}
+use Rattle.ray.specs.Length.{leg, d_of, volume}
 use Rattle.ray.specs.Codes.{grid_rows, end_rows}
 use Rattle.ray.proofs.Moved.{Moved}
 use Rattle.line.specs.Scene.{leg_n, line, volume_of, ray_of, Sized, Able}
 use Rattle.line.proofs.Three.{each}
 use Rattle.line.proofs.Sizes.{factor_most}
 use Rattle.line.specs.Raised.{Small, cube, line_of, scene_of}
-use Rattle.ray.proofs.Accepted.{axis_of, axes_ok, ends_inside}
+use Rattle.ray.proofs.Accepted.{axes_ok, ends_inside}
 
 module _ (m : Limits) (g : Grid) (r : Ray) (grid : first (grid_rows m g) ≡ 0) (ends : first (end_rows m r) ≡ 0) where
-  line_is : (o : Side) → line (scene_of m g r) o ≡ line_of m (axis_of g o) (leg r o).p (leg r o).q
+  line_is : (o : Side) → line (scene_of m g r) o ≡ line_of m (of_side g o) (leg r o).p (leg r o).q
   line_is = each _ refl refl refl
 
   module _ (small : Small m) where
-    sized : (o : Side) → Sized (line_of m (axis_of g o) (leg r o).p (leg r o).q)
+    sized : (o : Side) → Sized (line_of m (of_side g o) (leg r o).p (leg r o).q)
     sized o =
         let a = axes_ok m g grid o in
         let e = ends_inside m r ends o in
@@ -65,8 +68,8 @@ module _ (m : Limits) (g : Grid) (r : Ray) (grid : first (grid_rows m g) ≡ 0) 
       end : (o : Side) → pos (natural ((leg r o).q +ℤ pos m.coord)) ≡ (leg r o).q +ℤ pos m.coord
       end o = told (leg r o).q (ends_inside m r ends o).1
 
-      at : (o : Side) (i : ℕ) → pos (natural ((axis_of g o).b +ℤ pos m.coord) + i * (axis_of g o).d) ≡ (axis_of g o).b +ℤ pos (i * (axis_of g o).d) +ℤ pos m.coord
-      at o i = plane (axis_of g o).b (i * (axis_of g o).d) (axes_ok m g grid o).near
+      at : (o : Side) (i : ℕ) → pos (natural ((of_side g o).b +ℤ pos m.coord) + i * (of_side g o).d) ≡ (of_side g o).b +ℤ pos (i * (of_side g o).d) +ℤ pos m.coord
+      at o i = plane (of_side g o).b (i * (of_side g o).d) (axes_ok m g grid o).near
 
 -- RULES 3: the most that D is
 pub d_most : (m : Limits) → 0 < m.coord → (g : Grid) (r : Ray) → first (end_rows m r) ≡ 0 → d_of (ray_of (scene_of m g r)) ≤ cube (m.coord + m.coord)

@@ -7,8 +7,10 @@ use borrow.Author.Tests.{le-leb}
 use Rattle.ray.proofs.Tests.{all_of}
 use Rattle.ray.proofs.Planes.{Rise}
 use Rattle.ray.specs.declared.Ray.{Ray}
-use Rattle.ray.specs.Length.{Side, X, Y, Z, leg, rest, Volume, array, index, voxel, holds, start, stop, part_of}
-use Rattle.line.specs.declared.scene.Scene.{Scene}
+use Rattle.ray.specs.declared.axes.Side.{Side}
+use Rattle.ray.specs.declared.axes.Side.TheVariants.{X, Y, Z}
+use Rattle.ray.specs.Length.{leg, rest, Volume, array, index, voxel, holds, start, stop, part_of}
+use Rattle.line.specs.Scene.{Scene}
 use Rattle.line.specs.Scene.{leg_n, plane, line, volume_of, ray_of, enters_at, leaves_at, held_at}
 use Rattle.ray.proofs.Way.{Way}
 use Rattle.line.proofs.Three.{each}

@@ -3,7 +3,8 @@ use Prim.Native.Nat.{ℕ, ◌≤◌, ◌<◌, min, max}
 use mathlib.Core.Path.{◌≡◌, refl}
 use native.Mathlib.Omega.{arith}
 use native.Mathlib.Decide.{dec_le}
-use Rattle.ray.specs.Length.{Side, X, Y, Z}
+use Rattle.ray.specs.declared.axes.Side.{Side}
+use Rattle.ray.specs.declared.axes.Side.TheVariants.{X, Y, Z}
 
 -- what holds of each holds of all
 abbrev pub each : (A : Side → Type 0) → A X → A Y → A Z → (s : Side) → A s

@@ -2,9 +2,11 @@
 use Rattle.std.specs.Prelude.{ℕ, ◌+◌, ◌*◌, ◌^◌, ◌≤◌, ◌<◌, ◌≡◌, Bool, true, pos}
 use Rattle.axis.specs.Leg.{Planes, Leg, Slab, slab, held, enters, leaves}
 use Rattle.ray.specs.declared.Ray.{Ray}
-use Rattle.ray.specs.Length.{Side, X, Y, Z, Volume}
+use Rattle.ray.specs.declared.axes.Axes.{Axes}
+use Rattle.ray.specs.Side.{of_side}
+use Rattle.ray.specs.declared.axes.Side.{Side}
+use Rattle.ray.specs.Length.{Volume}
 use Rattle.line.specs.declared.line.Line.{Line}
-use Rattle.line.specs.declared.scene.Scene.{Scene}
 
 abbrev pub leg_n : ℕ → ℕ → Leg
 leg_n p q = record { p = pos p; q = pos q }
@@ -18,10 +20,12 @@ plane a i = a.b + i * a.d
 abbrev pub planes_of : Line → Planes
 planes_of a = record { n = a.n; at = λ i. pos (plane a i) }
 
+-- a line for each axis
+abbrev pub Scene : Type 0
+Scene = Axes Line
+
 abbrev pub line : Scene → Side → Line
-line s X = s.x
-line s Y = s.y
-line s Z = s.z
+line = of_side
 
 abbrev pub volume_of : Scene → Volume
 volume_of s side = planes_of (line s side)

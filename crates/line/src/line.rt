@@ -3,9 +3,10 @@ ghost use Rattle.std.specs.Prelude.{◌≡◌, true, ℕ, ◌+◌, ◌*◌, ◌^
 ghost use Rattle.axis.specs.Leg.{factor, run, enters, leaves, held};
 ghost use Rattle.line.specs.Scene.{leg_n, slab_n, plane, Sized};
 
-use crate::extremes::{apart, either, past};
+use std::hint::select_unpredictable;
 
-// The ray goes from p to q; plane i is at b + i * d, i from 0 to n.
+// The ray goes from p to q; plane i is at b + i * d, i from 0 to n. Nothing bounds the five: `factor` and `run` take any line, and
+// `scene_of` makes any.
 #[derive(Clone, Copy)]
 pub struct Line {
     pub p: u64,
@@ -19,8 +20,7 @@ impl Line {
     pub fn factor(self) -> u64
         ensures { result ≡ factor (leg_n self.p self.q) }
     {
-        let gap = apart(self.p, self.q);
-        if gap == 0 { 1 } else { gap }
+        self.p.abs_diff(self.q).max(1)
     }
 
     // Equation (4) for a plane at c, in units: α times the difference of the ends, and 0 where the plane lies behind the start.
@@ -28,7 +28,9 @@ impl Line {
         ensures { result ≡ run (leg_n self.p self.q) (pos c) }
     {
         let up = self.p < self.q;
-        past(either(up, self.p, c), either(up, c, self.p))
+        let from = select_unpredictable(up, self.p, c);
+        let to = select_unpredictable(up, c, self.p);
+        to.saturating_sub(from)
     }
 
     // Where the ray comes in between the planes lo and hi, whichever of them are held.
@@ -39,7 +41,7 @@ impl Line {
         if self.p == self.q {
             return 0;
         }
-        self.run(either(self.p < self.q, lo, hi))
+        self.run(select_unpredictable(self.p < self.q, lo, hi))
     }
 
     // Where it goes out of them; a still axis leaves it whole.
@@ -50,13 +52,14 @@ impl Line {
         if self.p == self.q {
             return 1;
         }
-        self.run(either(self.p < self.q, hi, lo))
+        self.run(select_unpredictable(self.p < self.q, hi, lo))
     }
 
     // Whether the array holds the ray, where lo and hi are its first and far plane: both are its own.
     pub fn held(self, lo: u64, hi: u64) -> bool
         ensures { result ≡ held (leg_n self.p self.q) (slab_n lo hi true) }
     {
+        // Not by && and ||: then the machine code asks again what enter and leave ask, and a trace of a short ray takes a tenth longer.
         if self.p == self.q {
             if lo <= self.p { self.p <= hi } else { false }
         } else {

@@ -6,8 +6,8 @@ ghost use Rattle.line.specs.Scene.{Sized, Window, Within};
 ghost use Rattle.line.specs.Beyond.{First, Stretch};
 ghost use Rattle.line.specs.Quotient.{spot_of, quotient_of, back_of};
 
-use crate::extremes::{either, least, past};
 use crate::line::Line;
+use std::hint::select_unpredictable;
 
 impl Line {
     // Equation (2) at α = t / (k |q - p|), in ticks of k to a unit; a still ray is at its start throughout.
@@ -17,8 +17,8 @@ impl Line {
         ensures value { result ≡ spot_of self k t }
         ensures upper_bound { result ≤ 2 ^ 62 }
     {
-        let up = either(self.p < self.q, t, 0);
-        let down = either(self.q < self.p, t, 0);
+        let up = select_unpredictable(self.p < self.q, t, 0);
+        let down = select_unpredictable(self.q < self.p, t, 0);
         self.p * k + up - down
     }
 
@@ -38,10 +38,8 @@ impl Line {
         let along = x - self.b * k;
         let wide = self.d * k;
         let low = near * wide;
-        if low <= along {
-            if along - low < wide {
-                return near;
-            }
+        if low <= along && along - low < wide {
+            return near;
         }
         self.quotient(k, x)
     }
@@ -51,7 +49,7 @@ impl Line {
         ensures value { result ≡ back_of self }
         ensures upper_bound { result ≤ 1 }
     {
-        if self.q < self.p { 1 } else { 0 }
+        u64::from(self.q < self.p)
     }
 
     // The first plane after the tick t, with no scan. A still axis has none, and is told 0.
@@ -80,10 +78,10 @@ impl Line {
         // (13): the middle is at α = (from + next) / 2D. On a moving axis D is c |q - p|, so its place is whole in half ticks, 2c to a unit.
         let middle = self.spot(2 * c, from + next);
         // The voxel before the plane ahead, as a guess.
-        let near = past(1 - self.back(), first);
+        let near = first.saturating_sub(1 - self.back());
         // (12), less the 1 that the paper counts from: the bracket and the spacing, both in half ticks.
         let i = self.quotient_near(2 * c, middle, near);
         // Only for a still ray in the far face, which belongs to the last voxel (RULES 2), is that one too high.
-        least(i, self.n - 1)
+        i.min(self.n - 1)
     }
 }

@@ -5,7 +5,7 @@ ghost use Rattle.line.specs.Reach.{Reached, left_at};
 
 use crate::line::Line;
 
-// Where the ray comes in and goes out on the axis, and whether a still axis holds it.
+// Where the ray comes in and goes out on the axis, and whether a still axis holds it: `Reached` fixes all three in any case.
 #[derive(Clone, Copy)]
 pub struct Reach {
     pub from: u64,

@@ -1,18 +1,19 @@
--- A line that grows byte by byte out of a piece of the input: what the loop that cuts lines keeps. Assumes nothing.
-use Prim.Native.Nat.{ℕ, zero, suc, ◌+◌, ◌≤◌, ◌<◌}
+-- A line that grows out of a piece of the input. Assumes nothing.
+use Prim.Native.Nat.{ℕ, zero, suc, ◌+◌, ◌-◌, ◌≤◌, ◌<◌}
 use mathlib.Core.Bool.{Bool, true, false, cond}
-use mathlib.Core.List.{List, [], ◌∷◌, ◌++◌, append_assoc, append-nil}
+use mathlib.Core.List.{List, [], ◌∷◌, ◌++◌, append_assoc}
 use mathlib.Core.Path.{◌≡◌, refl, ap, sym, ◌∙◌}
 use lib.Dec.{eqb}
-use lib.ListN.{length, get_or, take, drop, set, length-set, length-take, drop_of_length-le}
-use lib.Seq.{drop-cons}
-use native.Mathlib.Numerals.{add-one}
+use lib.ListN.{length, take, drop, length-take, length-drop}
+use lib.Seq.{take_all, drop-drop, length-take-le}
 use native.Mathlib.Omega.{arith}
-use borrow.Author.Tests.{ne_eqb}
+use borrow.Author.Tests.{eqb-true}
+use Rattle.std.proofs.lemmas.List.{take_rest}
+use Rattle.std.proofs.lemmas.Slice.{take-put_mid}
+use borrow.Rule.Slice.PartMut.{put_mid}
 use Rattle.text.specs.Split.{until}
-use Rattle.text.proofs.Split.{until_on, end_within}
-use Rattle.text.proofs.Written.{one_put}
-use Rattle.load.specs.declared.cut.Cut.TheVariants.{Line, More, Long}
+use Rattle.text.proofs.Split.{until_within}
+use Rattle.load.specs.declared.cut.Cut.TheVariants.{Line, More}
 use Rattle.load.specs.Cut.{Begun, CutInto}
 
 -- behind bytes with no sep
@@ -26,52 +27,72 @@ until_behind sep (x ∷ xs) q e = go (eqb x sep) (until_behind sep xs q) e
     go true rest f = absurd (omega arith)
     go false rest f = omega (arith, rest (omega arith))
 
+-- no sep stands ahead of it, and it stands there
+pub until_front : (sep : ℕ) (xs : List ℕ) → until sep (take (until sep xs) xs) ≡ until sep xs
+unfolding until
+until_front sep [] = refl
+until_front sep (x ∷ xs) = go (eqb x sep) refl (until_front sep xs)
+  where
+    go : (b : Bool) → eqb x sep ≡ b → until sep (take (until sep xs) xs) ≡ until sep xs
+        → until sep (take (cond b zero (suc (until sep xs))) (x ∷ xs)) ≡ cond b zero (suc (until sep xs))
+    go true e f = refl
+    go false e f = rw (e, f) refl
+
+pub until_met : (sep : ℕ) (xs : List ℕ) → until sep xs < length xs → xs ≡ take (until sep xs) xs ++ (sep ∷ drop (suc (until sep xs)) xs)
+unfolding until
+until_met sep [] h = absurd (omega arith)
+until_met sep (x ∷ xs) h = go (eqb x sep) refl (until_met sep xs) h
+  where
+    go : (b : Bool) → eqb x sep ≡ b → (until sep xs < length xs → xs ≡ take (until sep xs) xs ++ (sep ∷ drop (suc (until sep xs)) xs))
+        → cond b zero (suc (until sep xs)) < suc (length xs)
+        → x ∷ xs ≡ take (cond b zero (suc (until sep xs))) (x ∷ xs) ++ (sep ∷ drop (suc (cond b zero (suc (until sep xs)))) (x ∷ xs))
+    go true e rest g = ap (λ (y : ℕ). y ∷ xs) (eqb-true x sep e)
+    go false e rest g = ap (λ (ys : List ℕ). x ∷ ys) (rest (omega arith))
+
 -- what has begun of a line is as long as it is said to be, and has no LF
 pub begun_length : {have : ℕ} {line : List ℕ} → Begun have line → length (take have line) ≡ have
-begun_length {have} {line} b = omega (arith, b.unended, end_within 10 (take have line) 0 (omega arith), length-take have line)
+begun_length {have} {line} b = omega (arith, b.unended, until_within 10 (take have line), length-take have line)
 
 pub begun_plain : {have : ℕ} {line : List ℕ} → Begun have line → until 10 (take have line) ≡ length (take have line)
 begun_plain b = b.unended ∙ sym (begun_length b)
 
-one_on : (x : ℕ) → (x ≡ 10 → ⊥) → until 10 (x ∷ []) ≡ 1
-unfolding until
-one_on x h = rw (ne_eqb x 10 h) refl
+module _ {have : ℕ} {line : List ℕ} (b : Begun have line) (piece : List ℕ) (from : ℕ) where
+  -- what is left of the piece, as the code takes it
+  abbrev rest : List ℕ
+  rest = take (length piece - from) (drop from piece)
 
-pub record Cutting (before piece : List ℕ) (from : ℕ) (line₀ line : List ℕ) (i n : ℕ) : Type 0 where
-  pub within : i ≤ length piece
-  pub since : from ≤ i
-  pub kept : length line ≡ length line₀
-  pub begun : Begun n line
-  pub same : before ++ drop from piece ≡ take n line ++ drop i piece
+  rest_is : rest ≡ drop from piece
+  rest_is = take_rest piece from
 
-module _ {piece : List ℕ} {from : ℕ} {line₀ : List ℕ} where
-  pub cut_begins : {have : ℕ} → from ≤ length piece → Begun have line₀ → Cutting (take have line₀) piece from line₀ line₀ from have
-  cut_begins h b = record { within = h; since = omega arith; kept = refl; begun = b; same = refl }
+  module _ {n : ℕ} (is : n ≡ until 10 rest) where
+    pub cut_long : 4096 - have < n → 4096 < until 10 (take have line ++ drop from piece)
+    cut_long h = rw (← rest_is) (omega (arith, is, until_behind 10 (take have line) rest (begun_plain b), begun_length b))
 
-  module _ {before line : List ℕ} {i n : ℕ} (c : Cutting before piece from line₀ line i n) where
-    pub cut_more : length piece ≤ i → CutInto (More n) before piece from line
-    cut_more h = (c.begun, c.same ∙ rw (drop_of_length-le piece h) (append-nil (take n line)))
+    -- where the bytes ahead of the next LF are put behind those that stand
+    module _ {new : List ℕ} (copied : new ≡ take n rest) (room : n ≤ 4096 - have) (long : 4096 ≤ length line) where
+      abbrev line' : List ℕ
+      line' = put_mid have (have + n - have) line new
 
-    module _ (h : i < length piece) where
-      pub cut_ends : get_or piece i 0 ≡ 10 → CutInto (Line n (i + 1)) before piece from line
-      cut_ends e = (c.begun, c.same ∙ rw (add-one, drop-cons piece i 0, e) refl, omega (arith, c.since), omega arith)
+      within : n ≤ length rest
+      within = omega (arith, is, until_within 10 rest)
 
-      module _ (on : get_or piece i 0 ≡ 10 → ⊥) where
-        pub cut_long : 4096 ≤ n → CutInto Long before piece from line
-        cut_long g =
-            omega (arith, ap (until 10) c.same, until_behind 10 (take n line) (drop i piece) (begun_plain c.begun), begun_length c.begun, until_on 10 piece i h on)
+      put : take (have + n) line' ≡ take have line ++ take n rest
+      put =
+          let as_long : length new ≡ n = ap length copied ∙ length-take-le n rest within in
+          take-put_mid have (have + n - have) line new (have + n) (omega (arith, as_long)) (omega (arith, b.short)) ∙ ap (λ r. take have line ++ r) copied
 
-        pub cut_on : 4096 ≤ length line₀ → n < 4096 → Cutting before piece from line₀ (set line n (get_or piece i 0)) (i + 1) (n + 1)
-        cut_on room g =
-            let b = get_or piece i 0 in
-            let put : take (n + 1) (set line n b) ≡ take n line ++ b ∷ [] = one_put line n b (omega (arith, c.kept)) in
-            record {
-              within = omega arith;
-              since = omega (arith, c.since);
-              kept = length-set line n b ∙ c.kept;
-              begun = record {
-                short = omega arith;
-                unended = ap (until 10) put ∙ until_behind 10 (take n line) (b ∷ []) (begun_plain c.begun) ∙ rw (one_on b on, begun_length c.begun) refl;
-              };
-              same = c.same ∙ rw (put, add-one, drop-cons piece i 0, append_assoc) refl;
-            }
+      cut_begun : Begun (have + n) line'
+      cut_begun = record {
+        short = omega (arith, b.short);
+        unended = ap (until 10) put ∙ until_behind 10 (take have line) (take n rest) (begun_plain b) ∙ rw (begun_length b, is, until_front 10 rest) refl;
+      }
+
+      pub cut_more : length rest ≤ n → CutInto (More (have + n)) (take have line) piece from line'
+      cut_more h = (cut_begun, rw (put, take_all n rest h, rest_is) refl)
+
+      pub cut_ends : n < length rest → CutInto (Line (have + n) (from + n + 1)) (take have line) piece from line'
+      cut_ends h =
+          let behind : from + suc n ≡ from + n + 1 = omega arith in
+          let met = rw (← is) at (until_met 10 rest (rw (← is) h)) in
+          let parts : drop from piece ≡ take n rest ++ (10 ∷ drop (suc n) (drop from piece)) = sym rest_is ∙ met ∙ ap (λ r. take n rest ++ (10 ∷ drop (suc n) r)) rest_is in
+          (cut_begun, ap (λ r. take have line ++ r) parts ∙ rw (put, append_assoc, drop-drop, behind) refl, omega arith, omega (arith, ap length rest_is, length-drop from piece))

@@ -1,42 +1,28 @@
 -- What a line comes to, by the line that is due. Assumes nothing.
 use Prim.Native.Nat.{ℕ, ◌≤◌, ◌<◌}
-use mathlib.Core.Bool.{Bool, true, false, cond}
 use mathlib.Core.List.{List}
 use mathlib.Core.Path.{◌≡◌, refl}
-use lib.Dec.{eqb}
 use lib.ListN.{length}
 use native.Mathlib.Omega.{arith}
-use borrow.Author.Tests.{eqb-true, eqb-false, ne_eqb, le-ltb}
+use borrow.Author.Tests.{ne_eqb, le-ltb}
 use Rattle.axis.specs.Codes.{first}
 use Rattle.text.specs.Split.{split}
 use Rattle.load.specs.Loaded.{Loaded, due_at}
 use Rattle.load.specs.Numbers.{grid_in, dens_in}
 use Rattle.load.specs.Line.{refuses, leaves, head_rows, grid_read, dens_read, numbers_read, line_read}
 
--- which line is due, by the tests of what is read; what is known at each
-abbrev by : Bool → Bool → ℕ
-by b c = cond b 0 (cond c 2 1)
-
 module _ (lines left : ℕ) where
-  by_due : (P : ℕ → Type 0) → (lines ≡ 0 → P 0) → (0 < lines → 0 < left → P 1) → (0 < lines → left ≡ 0 → P 2) → P (due_at lines left)
-  by_due P grid dens own = go (eqb lines 0) (eqb left 0) refl refl
-    where
-      go : (b c : Bool) → eqb lines 0 ≡ b → eqb left 0 ≡ c → P (by b c)
-      go true c e f = grid (eqb-true lines 0 e)
-      go false true e f = let n = eqb-false lines 0 e in own (omega arith) (eqb-true left 0 f)
-      go false false e f = let n = eqb-false lines 0 e in let m = eqb-false left 0 f in dens (omega arith) (omega arith)
-
   pub grid_due : due_at lines left ≡ 0 → lines ≡ 0
-  grid_due = by_due (λ n. n ≡ 0 → lines ≡ 0) (λ e p. e) (λ h k p. absurd (omega arith)) (λ h k p. absurd (omega arith))
+  grid_due = grind arith
 
   pub dens_due : due_at lines left ≡ 1 → (0 < lines) × (0 < left)
-  dens_due = by_due (λ n. n ≡ 1 → (0 < lines) × (0 < left)) (λ e p. absurd (omega arith)) (λ h k p. (h, k)) (λ h k p. absurd (omega arith))
+  dens_due = grind arith
 
   pub own_due : due_at lines left ≡ 2 → (0 < lines) × (left ≡ 0)
-  own_due = by_due (λ n. n ≡ 2 → (0 < lines) × (left ≡ 0)) (λ e p. absurd (omega arith)) (λ h k p. absurd (omega arith)) (λ h k p. (h, k))
+  own_due = grind arith
 
   pub else_own : (due_at lines left ≡ 0 → ⊥) → (due_at lines left ≡ 1 → ⊥) → due_at lines left ≡ 2
-  else_own = by_due (λ n. (n ≡ 0 → ⊥) → (n ≡ 1 → ⊥) → n ≡ 2) (λ e p q. absurd (p refl)) (λ h k p q. absurd (q refl)) (λ h k p q. refl)
+  else_own = grind arith
 
 -- a line of at most 4096 bytes, and the code of 21 to 23 that applies to it, or 0
 pub record Checked (word : List ℕ) (own : ℕ) (s : Loaded) (l : List ℕ) (code : ℕ) : Type 0 where

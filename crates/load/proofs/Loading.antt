@@ -4,13 +4,17 @@ use mathlib.Core.List.{List}
 use mathlib.Core.Path.{◌≡◌, ap}
 use native.Mathlib.Nat.{add-mul}
 use native.Mathlib.Omega.{arith}
+use lib.ListN.{length}
+use borrow.Rule.Slice.PartMut.{put_mid}
+use Rattle.std.specs.Prelude.{Some}
+use Rattle.std.proofs.lemmas.Slice.{take-put_mid}
 use Rattle.axis.specs.declared.Limits.{Limits}
 use Rattle.axis.specs.Codes.{first}
-use Rattle.ray.specs.declared.Grid.{Grid}
+use Rattle.ray.specs.Axes.{Grid}
 use Rattle.ray.specs.Codes.{grid_rows}
 use Rattle.load.specs.declared.state.Load.{Load}
-use Rattle.load.specs.Loaded.{Loaded}
-use Rattle.load.specs.Line.{grid_code}
+use Rattle.load.specs.Loaded.{Loaded, loaded_of}
+use Rattle.load.specs.Line.{takes, dens_read, grid_code}
 use Rattle.load.specs.Sound.{Sound}
 use Rattle.load.proofs.Taking.{Sides, sides, code_zero, all_lines}
 
@@ -28,6 +32,13 @@ after_dens st = record { limits = st.limits; grid = st.grid; lines = st.lines + 
 -- a state with its densities
 abbrev pub holding : Load → List ℕ → Loaded
 holding st densities = record { limits = st.limits; lines = st.lines; grid = st.grid; left = st.left; densities = densities }
+
+-- a row behind the densities that are filled
+pub dens_put : (st : Load) (ds row : List ℕ) → st.filled ≤ length ds → length row ≡ st.grid.x.n
+    → takes (loaded_of (after_dens st) (put_mid st.filled (st.filled + st.grid.x.n - st.filled) ds row)) ≡ dens_read (loaded_of st ds) (Some row)
+dens_put st ds row h e =
+    let n = st.filled + st.grid.x.n in
+    ap (λ l. takes (holding (after_dens st) l)) (take-put_mid st.filled (n - st.filled) ds row n (omega (arith, e)) h)
 
 module _ {st : Load} (s : Sound st) (started : 0 < st.lines) where
   accepted : first (grid_rows st.limits st.grid) ≡ 0

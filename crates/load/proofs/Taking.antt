@@ -6,11 +6,16 @@ use lib.Dec.{ltb}
 use native.Mathlib.Nat.{mul-le-mul, mul_assoc, mul_comm, mul_left_comm}
 use native.Mathlib.Omega.{arith}
 use borrow.Author.Tests.{ltb-false, lt-ltb}
+use Rattle.std.specs.Prelude.{Result, Ok, Err}
 use Rattle.axis.specs.declared.Limits.{Limits}
 use Rattle.axis.specs.Codes.{Row, row, first}
-use Rattle.axis.proofs.Table.{then, then_none, joined, off}
-use Rattle.ray.specs.declared.Grid.{Grid}
-use Rattle.ray.specs.Length.{X, Y, Z, volume, count}
+use Rattle.axis.specs.declared.refusal.Refusal.{Refusal}
+use Rattle.axis.specs.Refusal.{number}
+use Rattle.axis.proofs.Table.{then, then_none, then_stop, joined, off}
+use Rattle.axis.proofs.Once.{number_once}
+use Rattle.ray.specs.Axes.{Grid}
+use Rattle.ray.specs.declared.axes.Side.TheVariants.{X, Y, Z}
+use Rattle.ray.specs.Length.{volume, count}
 use Rattle.ray.specs.Codes.{grid_rows}
 use Rattle.ray.proofs.Accepted.{axes_ok}
 use Rattle.load.specs.Line.{grid_code}
@@ -58,6 +63,14 @@ module _ {nx ny nz : ℕ} (s : Sides nx ny nz) where
 pub voxels_small : (m : Limits) (g : Grid) → m.n ≤ 512 → first (grid_rows m g) ≡ 0 → g.x.n * g.y.n * g.z.n ≤ 134217728
 voxels_small m g h e = voxels_fit (sides m g h e)
 
--- and 25 where they are too many
+-- a refusal is never 0
+number_some : (r : Refusal) → number r ≡ 0 → ⊥
+number_some r e = let z : ◌≡◌ {A = Result (Unit {0}) Refusal} (Err r) (Ok tt) = number_once e refl in cc
+
+-- 25 where they are too many
 pub code_many : (m : Limits) (g : Grid) → first (grid_rows m g) ≡ 0 → 4096 < g.x.n * g.y.n * g.z.n → 25 ≡ grid_code m g
 code_many m g e h = sym (code_then m g ∙ rw (e, lt-ltb 4096 (count (volume g)) h) refl)
+
+-- 1, 2 or 3 stand ahead of it
+pub code_few : (m : Limits) (g : Grid) (r : Refusal) → number r ≡ first (grid_rows m g) → number r ≡ grid_code m g
+code_few m g r e = e ∙ sym (code_then m g ∙ then_stop (first (grid_rows m g)) (first (row 25 (ltb 4096 (count (volume g))) ∷ [])) (λ z. number_some r (e ∙ z)))

@@ -1,17 +1,15 @@
 -- RULES 10.3 and 10.4: what a line is to the loader, and what is then loaded. Definitions only. Assumes nothing.
-use Rattle.std.specs.Prelude.{ℕ, ◌+◌, ◌-◌, ◌*◌, not, cond, List, [], ◌∷◌, ◌++◌, eqb, ltb, length, get_or}
-use Rattle.std.proofs.Math.Option.{Option, none, some}
+use Rattle.std.specs.Prelude.{ℕ, ◌+◌, ◌-◌, ◌*◌, not, cond, List, [], ◌∷◌, ◌++◌, eqb, ltb, length, get_or, Option, None, Some}
 use Rattle.axis.specs.declared.Limits.{Limits}
 use Rattle.axis.specs.Codes.{Row, row, first}
-use Rattle.ray.specs.declared.Grid.{Grid}
+use Rattle.ray.specs.Axes.{Grid}
 use Rattle.ray.specs.Length.{volume, count}
 use Rattle.ray.specs.Codes.{grid_rows}
-use Rattle.text.specs.declared.word.Word.{Word}
-use Rattle.text.specs.declared.word.Word.TheVariants as word
+use Rattle.text.specs.declared.word.Kind.{Kind}
 use Rattle.text.specs.Split.{split}
 use Rattle.text.specs.Word.{word_of}
 use Rattle.text.specs.Line.{line_of}
-use Rattle.load.specs.Loaded.{Loaded, due_at}
+use Rattle.load.specs.Loaded.{Loaded, kind_number, due_at}
 use Rattle.load.specs.Numbers.{grid_in, dens_in}
 
 abbrev pub BAD : List ℕ
@@ -31,12 +29,10 @@ pub data Reading : Type 0 where
 abbrev pub unless : ℕ → Reading → Reading
 unless code reading = cond (eqb code 0) reading (refuses code)
 
--- RULES 10.3: the kind of a line that begins with this word, and 3 of an unknown one
-abbrev pub kind_of : Word → ℕ
-kind_of word.Grid = 0
-kind_of word.Dens = 1
-kind_of word.Own = 2
-kind_of word.Other = 3
+-- RULES 10.3: the kind of a line that begins with a word, and 3 of an unknown one
+abbrev pub kind_of : Option Kind → ℕ
+kind_of None = 3
+kind_of (Some kind) = kind_number kind
 
 -- RULES 10.1: the fields of the line that is due: its word, and 9 numbers or nx densities; the program says its own
 abbrev pub fields_of : (own nx due : ℕ) → ℕ
@@ -54,12 +50,12 @@ grid_code m g = first (grid_rows m g ++ (row 25 (ltb 4096 (count (volume g))) �
 
 -- RULES 10.4: code 24, and then the numbers of a line that is due
 abbrev pub grid_read : Limits → Option Grid → Reading
-grid_read m none = refuses 24
-grid_read m (some g) = unless (grid_code m g) (takes (record { limits = m; lines = 1; grid = g; left = g.y.n * g.z.n; densities = [] }))
+grid_read m None = refuses 24
+grid_read m (Some g) = unless (grid_code m g) (takes (record { limits = m; lines = 1; grid = g; left = g.y.n * g.z.n; densities = [] }))
 
 abbrev pub dens_read : Loaded → Option (List ℕ) → Reading
-dens_read s none = refuses 24
-dens_read s (some ds) = takes (record { limits = s.limits; lines = s.lines + 1; grid = s.grid; left = s.left - 1; densities = s.densities ++ ds })
+dens_read s None = refuses 24
+dens_read s (Some ds) = takes (record { limits = s.limits; lines = s.lines + 1; grid = s.grid; left = s.left - 1; densities = s.densities ++ ds })
 
 unfoldable pub numbers_read : Loaded → List (List ℕ) → Reading
 numbers_read s fields =

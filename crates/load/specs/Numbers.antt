@@ -1,8 +1,7 @@
 -- RULES 10.1: the numbers of a GRID and of a DENS line. Definitions only. Assumes nothing.
-use Rattle.std.specs.Prelude.{ℕ, List, ℤ, pos, drop, get_or}
-use Rattle.std.proofs.Math.Option.{Option, none, some, map}
+use Rattle.std.specs.Prelude.{ℕ, List, ℤ, pos, drop, get_or, Option, None, Some, option_map}
 use Rattle.axis.specs.declared.Axis.{Axis}
-use Rattle.ray.specs.declared.Grid.{Grid}
+use Rattle.ray.specs.Axes.{Grid}
 use Rattle.text.specs.Number.{natural_of, integer_of}
 use Rattle.text.specs.Numbers.{natural_to, every}
 
@@ -17,8 +16,8 @@ grid_of sizes firsts =
     record { x = axis (s 0) (s 3) (b 0); y = axis (s 1) (s 4) (b 1); z = axis (s 2) (s 5) (b 2) }
 
 abbrev pub both : {A B C : Type 0} → (A → B → C) → Option A → Option B → Option C
-both f none b = none
-both f (some a) b = map (f a) b
+both f None b = None
+both f (Some a) b = option_map (f a) b
 
 -- RULES 10.2: the fields behind the word, where each is a number; n and d are read without a minus
 abbrev pub grid_in : List (List ℕ) → Option Grid

@@ -1,11 +1,10 @@
 -- What the loader keeps true of its state. Definitions only. Assumes nothing.
-use Rattle.std.specs.Prelude.{◌+◌, ◌*◌, ◌≤◌, ◌≡◌}
+use Rattle.std.specs.Prelude.{◌+◌, ◌*◌, ◌≤◌, ◌≡◌, Option, None, Some, Result, Ok, Err}
 use Rattle.axis.specs.Codes.{first}
 use Rattle.ray.specs.Length.{volume, count}
 use Rattle.ray.specs.Codes.{grid_rows}
+use Rattle.load.specs.declared.refusal.Bad.{Bad}
 use Rattle.load.specs.declared.state.Load.{Load}
-use Rattle.load.specs.declared.line.Took.{Took}
-use Rattle.load.specs.declared.line.Took.TheVariants.{In, Bad, Own}
 use Rattle.load.specs.Loaded.{due_at}
 
 -- a DENS line has at most 512 densities; the grid is one that is taken, as soon as it is read, and its densities are read or still to
@@ -24,7 +23,7 @@ pub record Further (st next : Load) : Type 0 where
   pub lines : next.lines ≡ st.lines + 1
   pub loading : due_at st.lines st.left ≡ 2 → ⊥
 
-abbrev pub Kept : Load → Took → Type 0
-Kept st (In next) = Further st next
-Kept st (Bad code) = Unit {0}
-Kept st Own = due_at st.lines st.left ≡ 2
+abbrev pub Kept : Load → Result (Option Load) Bad → Type 0
+Kept st (Ok (Some next)) = Further st next
+Kept st (Ok None) = due_at st.lines st.left ≡ 2
+Kept st (Err bad) = Unit {0}

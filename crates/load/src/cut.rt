@@ -2,6 +2,8 @@
 ghost use Rattle.std.specs.Prelude.{◌≤◌, length, take};
 ghost use Rattle.load.specs.Cut.{Begun, CutInto};
 
+use text::fields::len_until;
+
 // What a piece did to the line that has begun.
 #[derive(Clone, Copy)]
 pub enum Cut {
@@ -14,27 +16,22 @@ pub enum Cut {
 }
 
 // Moves the piece's bytes from `from` on behind the first `have` of the line, up to the next LF.
-#[tactic(auto, using(crate::proofs::Cutting::cut_more, crate::proofs::Cutting::cut_ends, crate::proofs::Cutting::cut_long))]
 pub fn cut_line(line: &mut [u8], have: usize, piece: &[u8], from: usize) -> Cut
     requires { Begun have line.old × (4096 ≤ length line.old) × (from ≤ length piece.now) }
     ensures { CutInto result (take have line.old) piece.now from line.new }
 {
-    let mut i = from;
-    let mut n = have;
-    while i < piece.len() {
-        let b = piece[i];
-        if b == b'\n' {
-            return Cut::Line {
-                len: n,
-                next: i + 1,
-            };
-        }
-        if 4096 <= n {
-            return Cut::Long;
-        }
-        line[n] = b;
-        n += 1;
-        i += 1;
+    let rest = &piece[from..];
+    let n = len_until(rest, b'\n');
+    if 4096 - have < n {
+        return Cut::Long;
     }
-    Cut::More { len: n }
+    let len = have + n;
+    line[have..len].copy_from_slice(&rest[..n]);
+    if n < rest.len() {
+        return Cut::Line {
+            len,
+            next: from + n + 1,
+        };
+    }
+    Cut::More { len }
 }

@@ -1,45 +1,44 @@
 // A DENS line.
-ghost use Rattle.std.specs.Prelude.{◌≡◌, ◌++◌, ℕ, ◌+◌, ◌≤◌, ◌<◌, length, take, get_or};
+ghost use Rattle.std.specs.Prelude.{◌≡◌, ◌≤◌, ◌<◌, length, IfOk};
 ghost use Rattle.text.specs.Split.{split};
+ghost use Rattle.text.specs.Numbers.{natural_to};
 ghost use Rattle.load.specs.Loaded.{loaded_of};
 ghost use Rattle.load.specs.Numbers.{dens_in};
 ghost use Rattle.load.specs.Line.{dens_read};
-ghost use Rattle.load.specs.Read.{reading_of};
-ghost use Rattle.load.specs.Sound.{Sound, Kept};
+ghost use Rattle.load.specs.Read.{taking_of};
+ghost use Rattle.load.specs.Sound.{Sound, Further};
 
-use crate::line::Took;
+use crate::refusal::Bad;
 use crate::state::Load;
-use text::numbers::naturals;
+use text::number::natural_in;
+use text::numbers::{Reader, numbers};
 
-// Puts the first n of a row behind the first `at` densities.
-fn store(row: &[u32], n: usize, densities: &mut [u16], at: usize)
-    requires { (n ≤ length row.now) × (at + n ≤ length densities.old) × ((i : ℕ) → i < n → get_or row.now i 0 ≤ 65535) }
-    ensures { take (at + n) densities.new ≡ take at densities.old ++ take n row.now }
-{
-    let mut i = 0;
-    while i < n {
-        densities[at + i] = row[i] as u16;
-        i += 1;
+// A density fits 16 bits.
+#[derive(Clone, Copy)]
+struct Density;
+
+impl Reader for Density {
+    type Number = u16;
+
+    ghost reads = { λ _. natural_to 65535 };
+
+    fn read(&self, t: &[u8]) -> Option<u16> {
+        u16::try_from(natural_in(t)?).ok()
     }
 }
 
 #[tactic(auto, using(crate::proofs::Loading::sound_dens))]
-pub fn take_dens(st: Load, line: &[u8], densities: &mut [u16]) -> Took
+pub fn take_dens(st: Load, line: &[u8], densities: &mut [u16]) -> Result<Load, Bad>
     requires { Sound st × (0 < st.lines) × (0 < st.left) × (4096 ≤ length densities.old) }
-    ensures kept { Kept st result }
-    ensures reading { reading_of st result densities.new ≡ dens_read (loaded_of st densities.old) (dens_in st.grid.x.n (split 9 line.now)) }
+    ensures kept { IfOk result (Further st) }
+    ensures reading { taking_of result densities.new ≡ dens_read (loaded_of st densities.old) (dens_in st.grid.x.n (split 9 line.now)) }
 {
-    let x = st.grid.x;
-    let nx = x.n as usize;
-    let filled = st.filled;
-    let mut row: [u32; 512] = [0; 512];
-    if naturals(line, 0, nx, 65535, &mut row) {
-        store(&row, nx, densities, filled);
-        let mut next = st;
-        next.lines = st.lines + 1;
-        next.left = st.left - 1;
-        next.filled = filled + nx;
-        return Took::In(next);
-    }
-    Took::Bad(24)
+    let filled = st.filled + st.grid.x.n as usize;
+    numbers(Density, line, 0, &mut densities[st.filled..filled]).ok_or(Bad::Number)?;
+    Ok(Load {
+        lines: st.lines + 1,
+        left: st.left - 1,
+        filled,
+        ..st
+    })
 }

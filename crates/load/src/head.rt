@@ -2,47 +2,34 @@
 ghost use Rattle.std.specs.Prelude.{◌≡◌};
 ghost use Rattle.axis.specs.Codes.{first};
 ghost use Rattle.text.specs.Split.{split};
-ghost use Rattle.load.specs.Line.{kind_of, fields_of, head_rows};
+ghost use Rattle.load.specs.Loaded.{kind_number};
+ghost use Rattle.load.specs.Line.{fields_of, head_rows};
+ghost use Rattle.load.specs.Refusal.{bad_number_of};
 
+use crate::refusal::Bad;
 use text::fields::count;
-use text::word::{Word, first_word};
+use text::word::{Kind, first_word};
 
-fn kind_of(word: Word) -> u32
-    ensures { result ≡ kind_of word }
+fn fields_of(kind: Kind, nx: u32, own: usize) -> usize
+    ensures { result ≡ fields_of own nx (kind_number kind) }
 {
-    match word {
-        Word::Grid => 0,
-        Word::Dens => 1,
-        Word::Own => 2,
-        Word::Other => 3,
+    match kind {
+        Kind::Grid => 10,
+        Kind::Dens => nx as usize + 1,
+        Kind::Own => own,
     }
 }
 
-fn fields_of(due: u32, nx: u32, fields: usize) -> usize
-    ensures { result ≡ fields_of fields nx due }
+// The word, and so the kind, and the number of fields of a line where one of this kind is due.
+pub fn check_head(line: &[u8], due: Kind, nx: u32, word: &[u8], fields: usize) -> Result<(), Bad>
+    ensures { bad_number_of result ≡ first (head_rows word.now fields (kind_number due) nx (split 9 line.now)) }
 {
-    if due == 0 {
-        return 10;
-    }
-    if due == 1 {
-        return nx as usize + 1;
-    }
-    fields
-}
-
-// 21, 22 or 23 for a line where one of this kind is due, 0 where none applies.
-pub fn head_code(line: &[u8], due: u32, nx: u32, word: &[u8], fields: usize) -> u32
-    ensures { result ≡ first (head_rows word.now fields due nx (split 9 line.now)) }
-{
-    let own = kind_of(first_word(line, word));
-    if own == 3 {
-        return 21;
-    }
-    if own != due {
-        return 22;
+    let kind = first_word(line, word).ok_or(Bad::Word)?;
+    if kind != due {
+        return Err(Bad::Due);
     }
     if count(line) != fields_of(due, nx, fields) {
-        return 23;
+        return Err(Bad::Fields);
     }
-    0
+    Ok(())
 }

@@ -8,4 +8,5 @@ mod dens;
 mod grid;
 mod head;
 pub mod line;
+pub mod refusal;
 pub mod state;

@@ -1,13 +1,14 @@
 // What is read of a grid and its densities.
 ghost use Rattle.std.specs.Prelude.{◌≡◌, List, ℕ, ◌≤◌};
-ghost use Rattle.load.specs.Loaded.{nothing, due_at, loaded_of};
+ghost use Rattle.load.specs.Loaded.{nothing, kind_number, due_at, loaded_of};
 ghost use Rattle.load.specs.Sound.{Sound};
 
 use axis::{Axis, Limits};
 use ray::Grid;
+use text::word::Kind;
 
 // At the limits of a device `lines` GRID and DENS lines are taken in, and `left` DENS lines are still to come. The densities
-// read are the first `filled` of the lent densities.
+// read are the first `filled` of the lent densities. That it is sound is no field, since `due` promises of any.
 #[derive(Clone, Copy)]
 pub struct Load {
     pub limits: Limits,
@@ -38,13 +39,17 @@ impl Load {
         }
     }
 
-    // Which line is due: 0 GRID, 1 DENS, 2 one of the program's own kind.
-    pub fn due(self) -> u32
-        ensures { result ≡ due_at self.lines self.left }
+    // Which line is due.
+    pub fn due(self) -> Kind
+        ensures { kind_number result ≡ due_at self.lines self.left }
     {
         if self.lines == 0 {
-            return 0;
+            return Kind::Grid;
         }
-        if self.left == 0 { 2 } else { 1 }
+        if self.left == 0 {
+            Kind::Own
+        } else {
+            Kind::Dens
+        }
     }
 }

@@ -1,3 +1,2 @@
 -- Laws of the comparisons' doors.
-pub mod Stored
 pub mod Once

@@ -2,7 +2,7 @@
 -- lists. They are no entry points of RULES 9: a refusal hands its zeros over too. Definitions only. Assumes nothing.
 use Rattle.std.specs.Prelude.{ℕ, ◌≡◌, cond, List, [], ◌∷◌, eqb, Float, length}
 use Rattle.axis.specs.declared.Limits.{Limits}
-use Rattle.ray.specs.declared.Grid.{Grid}
+use Rattle.ray.specs.Axes.{Grid}
 use Rattle.ray.specs.declared.Ray.{Ray}
 use Rattle.tracing.specs.Answer.{Lists, answer_of, voxels_after, parts_after}
 use Rattle.place.specs.declared.Mark.{Mark}

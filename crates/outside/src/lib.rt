@@ -10,8 +10,9 @@ ghost use Rattle.outside.specs.Doors.{Appended, Pointed};
 pub mod limits;
 mod put;
 
-use crate::put::{code_in, put_answer, put_mark, put_points};
+use crate::put::{code_in, floats_of, mark_of, put};
 use ilvoresta::given::{grid_of, ray_of};
+use ilvoresta::traced::six_of;
 use place::call::points;
 use tracing::calls::append;
 
@@ -45,7 +46,7 @@ pub extern "C" fn outside_append(
     let g = grid_of(nx, ny, nz, dx, dy, dz, bx, by, bz);
     let r = ray_of(px, py, pz, qx, qy, qz);
     let t = append(g, r, densities, voxels, parts, filled);
-    put_answer(t, answer);
+    put(&six_of(t), answer);
     t.code
 }
 
@@ -75,8 +76,7 @@ pub extern "C" fn outside_points(
     let g = grid_of(nx, ny, nz, dx, dy, dz, bx, by, bz);
     let r = ray_of(px, py, pz, qx, qy, qz);
     let a = points(g, r);
-    let m = a.mark;
-    put_points(a, floats);
-    put_mark(m, mark);
-    code_in(m)
+    put(&[mark_of(a.mark)], mark);
+    put(&floats_of(a), floats);
+    code_in(a.mark)
 }

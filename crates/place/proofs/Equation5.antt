@@ -8,9 +8,11 @@ use lib.IntN.{ℤ}
 use lib.Ieee.{Float}
 use Rattle.axis.specs.Leg.{natural, Slab}
 use Rattle.axis.specs.declared.Limits.{Limits}
-use Rattle.ray.specs.declared.Grid.{Grid}
+use Rattle.ray.specs.Axes.{Grid}
 use Rattle.ray.specs.declared.Ray.{Ray}
-use Rattle.ray.specs.Length.{Side, X, Y, Z, leg, d_of, volume, array, misses}
+use Rattle.ray.specs.declared.axes.Side.{Side}
+use Rattle.ray.specs.declared.axes.Side.TheVariants.{X, Y, Z}
+use Rattle.ray.specs.Length.{leg, d_of, volume, array, misses}
 use Rattle.ray.proofs.Accepted.{ends_inside}
 use Rattle.ray.proofs.Capped.{stop_cap}
 use Rattle.ray.proofs.Fraction.{Fraction, Is, at, least0}

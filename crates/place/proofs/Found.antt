@@ -2,29 +2,35 @@
 -- at any limits that are small enough. Assumes nothing.
 use Prim.Native.Nat.{ℕ, ◌<◌}
 use mathlib.Core.Path.{◌≡◌, refl, sym, ap, ◌∙◌, subst}
-use mathlib.Core.Bool.{Bool, true, false, not, ◌||◌, cond}
+use mathlib.Core.Bool.{Bool, true, false, not, ◌||◌, ◌&&◌, cond}
 use native.Mathlib.Decide.{ℕ_discrete}
 use lib.IntN.{pos}
+use Rattle.std.specs.Prelude.{Option, Some, None, Result, Ok, Err}
 use lib.Dec.{eqb, leb}
 use borrow.Author.Tests.{eq-eqb, ne_eqb, not-false}
 use Rattle.axis.specs.declared.Limits.{Limits}
+use Rattle.axis.specs.declared.refusal.Refusal.{Refusal}
+use Rattle.axis.specs.Refusal.{number, number_of}
+use Rattle.axis.specs.Codes.{first}
+use Rattle.axis.proofs.Table.{then_on, then_stop, number_some}
 use Rattle.axis.proofs.Flag.{lt_not_le, or_right}
-use Rattle.ray.specs.declared.Grid.{Grid}
+use Rattle.ray.specs.Axes.{Grid}
 use Rattle.ray.specs.declared.Ray.{Ray}
-use Rattle.ray.specs.Length.{Side, d_of, Volume, volume, array, start, stop, holds, misses}
+use Rattle.ray.specs.declared.axes.Side.{Side}
+use Rattle.ray.specs.Length.{d_of, Volume, volume, array, start, stop, holds, misses}
+use Rattle.ray.specs.Codes.{grid_rows, end_rows}
 use Rattle.ray.proofs.MovedAxis.{slab_on}
 use Rattle.ray.proofs.Moved.{Moved, d_moved, start_moved, stop_moved, holds_moved, array_moved, misses_moved}
 use Rattle.ray.proofs.HitOrMiss.{ahead}
-use Rattle.line.specs.declared.scene.Scene.{Scene}
+use Rattle.line.specs.Scene.{Scene}
 use Rattle.line.specs.Scene.{volume_of, ray_of, Able}
 use Rattle.line.specs.Raised.{Small, scene_of}
 use Rattle.line.proofs.Raised as raised
-use Rattle.place.specs.declared.fraction.Fraction.{Fraction}
-use Rattle.place.specs.declared.crossing.Crossing.{Crossing}
-use Rattle.place.specs.declared.crossing.Crossing.TheVariants.{Refused, Miss, Through}
-use Rattle.place.specs.Deciding.{joined_of, through_of, crossing_of}
+use Rattle.place.specs.Ratio.{Ratio, below}
+use Rattle.place.specs.declared.crossing.Stretch.{Stretch}
+use Rattle.place.specs.Deciding.{stretch_at, αmin, αmax, joined_of, through_of, Crossing, numbered, crossing_of}
 use Rattle.place.specs.Answers.{refusal_of}
-use Rattle.place.proofs.Accepted.{Accepted, accepted}
+use Rattle.place.proofs.Accepted.{refusal_is, Accepted, accepted}
 use Rattle.place.proofs.Deciding.{Is, below_is, enter, leave, αmin_is, αmax_is}
 
 turned : {A : Type 0} (a b : Bool) (x y : A) → cond b (cond (not a) x y) y ≡ cond (a || not b) y x
@@ -33,16 +39,29 @@ turned true false x y = refl
 turned false true x y = refl
 turned false false x y = refl
 
-through_is : (s : Scene) → Able s → through_of s ≡ cond (misses (volume_of s) (ray_of s)) Miss (Through (enter s) (leave s))
-unfolding joined_of misses
+abbrev went : Scene → Option Stretch
+went s = Some (record { enter = enter s; leave = leave s })
+
+-- three axes, each where it holds the ray
+joined_is : (a b c : Bool) (x y z : Stretch) → joined_of (cond a (Some x) None) (cond b (Some y) None) (cond c (Some z) None)
+    ≡ cond (a && (b && c)) (cond (below (αmin x y z) (αmax x y z)) (Some (record { enter = αmin x y z; leave = αmax x y z })) None) None
+unfolding joined_of
+joined_is true true true x y z = refl
+joined_is true true false x y z = refl
+joined_is true false c x y z = refl
+joined_is false b c x y z = refl
+
+through_is : (s : Scene) → Able s → through_of s ≡ cond (misses (volume_of s) (ray_of s)) None (went s)
+unfolding misses
 through_is s able =
     let from = start (ray_of s) (array (volume_of s)) in
     let to = stop (ray_of s) (array (volume_of s)) in
     let held = holds (ray_of s) (array (volume_of s)) in
-    ap (λ (t : Bool). cond held (cond t (Through (enter s) (leave s)) Miss) Miss) (below_is (αmin_is s able) (αmax_is s able) ∙ lt_not_le from to)
-    ∙ turned (leb to from) held (Through (enter s) (leave s)) Miss
+    joined_is _ _ _ (stretch_at s.x) (stretch_at s.y) (stretch_at s.z)
+    ∙ ap (λ (t : Bool). cond held (cond t (went s) None) None) (below_is (αmin_is s able) (αmax_is s able) ∙ lt_not_le from to)
+    ∙ turned (leb to from) held (went s) None
 
-is_same : {f : Fraction} {n n' d d' : ℕ} → n ≡ n' → d ≡ d' → Is f n d → Is f n' d'
+is_same : {f : Ratio} {n n' d d' : ℕ} → n ≡ n' → d ≡ d' → Is f n d → Is f n' d'
 is_same e h F = rw (e, h) at F
 
 module _ (m : Limits) (g : Grid) (r : Ray) where
@@ -75,15 +94,35 @@ module _ (m : Limits) (g : Grid) (r : Ray) where
     misses_same : misses (volume_of s) (ray_of s) ≡ misses v r
     misses_same = misses_moved moved
 
-  pub crossed : refusal_of m g r ≡ 0 → crossing_of m g r ≡ through_of s
+  pub crossed : refusal_of m g r ≡ 0 → crossing_of m g r ≡ Ok (through_of s)
   unfolding crossing_of
   crossed h = rw (eq-eqb (refusal_of m g r) 0 h) refl
 
-  pub refused : (refusal_of m g r ≡ 0 → ⊥) → crossing_of m g r ≡ Refused (refusal_of m g r)
+  refused : (refusal_of m g r ≡ 0 → ⊥) → crossing_of m g r ≡ Err (refusal_of m g r)
   unfolding crossing_of
   refused h = rw (ne_eqb (refusal_of m g r) 0 h) refl
 
-  pub record Hit (e l : Fraction) : Type 0 where
+  -- each of the two checks that refuses, and both that accept
+  told_refused : (k : Refusal) → number k ≡ refusal_of m g r → Err (number k) ≡ crossing_of m g r
+  told_refused k h = ap Err h ∙ sym (refused (λ z. number_some k (h ∙ z)))
+
+  pub grid_refused : {a : Result (Unit {0}) Refusal} {c : Result (Option Stretch) Refusal} (k : Refusal) → number_of a ≡ first (grid_rows m g)
+      → a ≡ Err k → c ≡ Err k → numbered c ≡ crossing_of m g r
+  grid_refused k grid is same =
+      let h : number k ≡ first (grid_rows m g) = rw is at grid in
+      rw same (told_refused k (h ∙ sym (refusal_is m g r ∙ then_stop _ _ (λ z. number_some k (h ∙ z)))))
+
+  pub ends_refused : {a b : Result (Unit {0}) Refusal} {c : Result (Option Stretch) Refusal} {u : Unit {0}} (k : Refusal) → number_of a ≡ first (grid_rows m g)
+      → a ≡ Ok u → number_of b ≡ first (end_rows m r) → b ≡ Err k → c ≡ Err k → numbered c ≡ crossing_of m g r
+  ends_refused k grid a_is ends b_is same =
+      let h : number k ≡ first (end_rows m r) = rw b_is at ends in
+      rw same (told_refused k (h ∙ sym (refusal_is m g r ∙ then_on _ _ (sym grid ∙ ap number_of a_is))))
+
+  pub none_refused : {a b : Result (Unit {0}) Refusal} {u v : Unit {0}} → number_of a ≡ first (grid_rows m g) → a ≡ Ok u
+      → number_of b ≡ first (end_rows m r) → b ≡ Ok v → refusal_of m g r ≡ 0
+  none_refused grid a_is ends b_is = refusal_is m g r ∙ then_on _ _ (sym grid ∙ ap number_of a_is) ∙ sym ends ∙ ap number_of b_is
+
+  pub record Hit (e l : Ratio) : Type 0 where
     pub code : refusal_of m g r ≡ 0
     pub ok : Accepted m g r
     pub meets : misses v r ≡ false
@@ -94,15 +133,15 @@ module _ (m : Limits) (g : Grid) (r : Ray) where
 
   -- what each of the three says of the grid and the ray
   abbrev Found : Crossing → Type 0
-  Found (Refused c) = (c ≡ refusal_of m g r) × (refusal_of m g r ≡ 0 → ⊥)
-  Found Miss = (refusal_of m g r ≡ 0) × (misses v r ≡ true)
-  Found (Through e l) = Hit e l
+  Found (Err c) = (c ≡ refusal_of m g r) × (refusal_of m g r ≡ 0 → ⊥)
+  Found (Ok None) = (refusal_of m g r ≡ 0) × (misses v r ≡ true)
+  Found (Ok (Some t)) = Hit t.enter t.leave
 
   module _ (small : Small m) where
     pub able : Accepted m g r → Able s
     able ok = raised.able m g r ok.grid ok.ends small
 
-    accepted_by : (u : Bool) → misses v r ≡ u → refusal_of m g r ≡ 0 → Found (cond u Miss (Through (enter s) (leave s)))
+    accepted_by : (u : Bool) → misses v r ≡ u → refusal_of m g r ≡ 0 → Found (Ok (cond u None (went s)))
     unfolding misses
     accepted_by true h code = (code, h)
     accepted_by false h code =
@@ -121,20 +160,20 @@ module _ (m : Limits) (g : Grid) (r : Ray) where
     found = elim (ℕ_discrete (refusal_of m g r) 0) [
       | yes h ↦
           let ok = accepted m g r h in
-          let same = ap (λ (t : Bool). cond t Miss (Through (enter s) (leave s))) (misses_same ok) in
-          subst Found (sym (crossed h ∙ through_is s (able ok) ∙ same)) (accepted_by (misses v r) refl h)
+          let same = ap (λ (t : Bool). Ok (cond t None (went s))) (misses_same ok) in
+          subst Found (sym (crossed h ∙ ap Ok (through_is s (able ok)) ∙ same)) (accepted_by (misses v r) refl h)
       | no h ↦ subst Found (sym (refused h)) (refl, h)
     ]
 
-    pub hit : (e l : Fraction) → crossing_of m g r ≡ Through e l → Hit e l
-    hit e l h = subst Found h found
+    pub hit : (t : Stretch) → crossing_of m g r ≡ Ok (Some t) → Hit t.enter t.leave
+    hit t h = subst Found h found
 
     -- an answer made of what was found, where y is that of a hit
-    module _ {A : Type 0} (f : Crossing → A) (y : A) (each : (e l : Fraction) → Hit e l → f (Through e l) ≡ y) where
-      by : (k : Crossing) → Found k → f k ≡ cond (eqb (refusal_of m g r) 0) (cond (misses v r) (f Miss) y) (f (Refused (refusal_of m g r)))
-      by (Refused c) F = rw (ne_eqb (refusal_of m g r) 0 F.1) (ap (λ (x : ℕ). f (Refused x)) F.0)
-      by Miss F = rw (eq-eqb (refusal_of m g r) 0 F.0, F.1) refl
-      by (Through e l) F = rw (eq-eqb (refusal_of m g r) 0 F.code, F.meets) (each e l F)
+    module _ {A : Type 0} (f : Crossing → A) (y : A) (each : (t : Stretch) → Hit t.enter t.leave → f (Ok (Some t)) ≡ y) where
+      by : (k : Crossing) → Found k → f k ≡ cond (eqb (refusal_of m g r) 0) (cond (misses v r) (f (Ok None)) y) (f (Err (refusal_of m g r)))
+      by (Err c) F = rw (ne_eqb (refusal_of m g r) 0 F.1) (ap (λ (x : ℕ). f (Err x)) F.0)
+      by (Ok None) F = rw (eq-eqb (refusal_of m g r) 0 F.0, F.1) refl
+      by (Ok (Some t)) F = rw (eq-eqb (refusal_of m g r) 0 F.code, F.meets) (each t F)
 
-      pub answer_is : f (crossing_of m g r) ≡ cond (eqb (refusal_of m g r) 0) (cond (misses v r) (f Miss) y) (f (Refused (refusal_of m g r)))
+      pub answer_is : f (crossing_of m g r) ≡ cond (eqb (refusal_of m g r) 0) (cond (misses v r) (f (Ok None)) y) (f (Err (refusal_of m g r)))
       answer_is = by (crossing_of m g r) found

@@ -16,7 +16,7 @@ use Rattle.axis.proofs.Bounds.{inside_low}
 use Rattle.line.specs.declared.line.Line.{Line}
 use Rattle.line.specs.Scene.{plane}
 use Rattle.line.specs.Raised.{line_of}
-use Rattle.place.specs.declared.fraction.Fraction.{Fraction}
+use Rattle.place.specs.Ratio.{Ratio}
 use Rattle.place.specs.Answers.{coordinate}
 use Rattle.place.proofs.Deciding.{Is, up_to_one}
 use Rattle.place.proofs.Difference.{told, diff_times, diff_order, point_is}
@@ -53,10 +53,10 @@ module _ (m : Limits) (l : Leg) (in_both : (inside m l.p ≡ true) × (inside m 
       ∙ (λ i. pos (same_spot p q t d a b e i) -ℤ pos (mul_right_comm k b d i))
       ∙ sym (exactly_times t d b h))
 
-  pub coordinate_plain : (f : Fraction) (t d : ℕ) → t ≤ d → Is f t d → ZeroPlain (coordinate l t d)
+  pub coordinate_plain : (f : Ratio) (t d : ℕ) → t ≤ d → Is f t d → ZeroPlain (coordinate l t d)
   coordinate_plain f t d h F =
       subst ZeroPlain (coordinate_is f.num f.den t d F.at.den_pos F.at.d_pos h F.at.at)
-      (nearest_plain (exactly l f.num f.den) f.den F.at.den_pos F.short.1)
+      (nearest_plain (exactly l f.num f.den) f.den F.at.den_pos F.short.den_size)
 
   -- and an axis against it
   module _ (a : Axis) (near : inside m a.b ≡ true) (t d : ℕ) (h : t ≤ d) (D : 0 < d) where

@@ -2,7 +2,7 @@
 use mathlib.Core.Path.{◌≡◌}
 use Rattle.axis.specs.declared.Limits.{Limits}
 use Rattle.axis.proofs.Once.{once}
-use Rattle.ray.specs.declared.Grid.{Grid}
+use Rattle.ray.specs.Axes.{Grid}
 use Rattle.ray.specs.declared.Ray.{Ray}
 use Rattle.place.specs.declared.Place.{Place}
 use Rattle.place.specs.declared.Points.{Points}

@@ -5,26 +5,28 @@ use mathlib.Core.Path.{◌≡◌, refl, sym, ◌∙◌, subst}
 use native.Mathlib.Nat.{le_refl, le_trans, lt_of_lt_of_le, lt_of_le_of_lt, le_of_eq, le_of_lt}
 use native.Mathlib.Omega.{arith}
 use lib.IntN.{ℤ, pos, ◌*ℤ◌}
+use Rattle.std.specs.Prelude.{Some, None, Ok, Err}
 use lib.Dec.{T}
 use lib.Ieee.{Float, binary64, le, of_int}
 use Rattle.axis.specs.Leg.{Slab, slab, planes}
 use Rattle.axis.specs.declared.Limits.{Limits}
-use Rattle.ray.specs.declared.Grid.{Grid}
+use Rattle.ray.specs.Axes.{Grid}
 use Rattle.ray.specs.declared.Ray.{Ray}
-use Rattle.ray.specs.Length.{Side, X, Y, Z, leg, d_of, volume, array, start, stop}
-use Rattle.ray.proofs.Accepted.{axis_of, axes_ok, ends_inside}
+use Rattle.ray.specs.Side.{of_side}
+use Rattle.ray.specs.declared.axes.Side.{Side}
+use Rattle.ray.specs.declared.axes.Side.TheVariants.{X, Y, Z}
+use Rattle.ray.specs.Length.{leg, d_of, volume, array, start, stop}
+use Rattle.ray.proofs.Accepted.{axes_ok, ends_inside}
 use Rattle.ray.proofs.Capped.{d_pos, stop_cap}
 use Rattle.line.specs.declared.line.Line.{Line}
-use Rattle.line.specs.declared.scene.Scene.{Scene}
+use Rattle.line.specs.Scene.{Scene}
 use Rattle.line.specs.Scene.{plane, line}
 use Rattle.line.specs.Raised.{Small, line_of, scene_of}
 use Rattle.place.specs.declared.Point.{Point}
 use Rattle.place.specs.declared.Points.{Points}
 use Rattle.place.specs.declared.Mark.TheVariants as mark
-use Rattle.place.specs.declared.fraction.Fraction.{Fraction}
-use Rattle.place.specs.declared.crossing.Crossing.{Crossing}
-use Rattle.place.specs.declared.crossing.Crossing.TheVariants.{Refused, Miss, Through}
-use Rattle.place.specs.Deciding.{crossing_of}
+use Rattle.place.specs.Ratio.{Ratio}
+use Rattle.place.specs.Deciding.{Crossing, crossing_of}
 use Rattle.place.specs.Answers.{coordinate, point_at, nowhere, points_of}
 use Rattle.place.proofs.Deciding.{Is}
 use Rattle.place.proofs.Signed.{exact}
@@ -40,9 +42,9 @@ on p Y = p.y
 on p Z = p.z
 
 abbrev pub pointed : Ray → Crossing → Points
-pointed r (Refused c) = nowhere (mark.Refused c)
-pointed r Miss = nowhere mark.Miss
-pointed r (Through e l) = record { mark = mark.Hit; enter = point_at r e.num e.den; leave = point_at r l.num l.den }
+pointed r (Err c) = nowhere (mark.Refused c)
+pointed r (Ok None) = nowhere mark.Miss
+pointed r (Ok (Some t)) = record { mark = mark.Hit; enter = point_at r t.enter.num t.enter.den; leave = point_at r t.leave.num t.leave.den }
 
 -- RULES 8, of the point at α = t / D: no coordinate outside the first and far plane of its axis, on a plane the whole number itself,
 -- and no -0
@@ -64,26 +66,26 @@ module _ (m : Limits) (g : Grid) (r : Ray) where
   abbrev s : Scene
   s = scene_of m g r
 
-  line_is : (o : Side) → line s o ≡ line_of m (axis_of g o) (leg r o).p (leg r o).q
+  line_is : (o : Side) → line s o ≡ line_of m (of_side g o) (leg r o).p (leg r o).q
   line_is X = refl
   line_is Y = refl
   line_is Z = refl
 
-  array_is : (o : Side) → array (volume g) o ≡ slab (planes (axis_of g o)) 0 (axis_of g o).n
+  array_is : (o : Side) → array (volume g) o ≡ slab (planes (of_side g o)) 0 (of_side g o).n
   array_is X = refl
   array_is Y = refl
   array_is Z = refl
 
-  module _ {e l : Fraction} (H : Hit m g r e l) where
+  module _ {e l : Ratio} (H : Hit m g r e l) where
     -- any place from start to stop, told by a short fraction
-    module _ {f : Fraction} {t : ℕ} (F : Is f t (d_of r)) (after : start r box ≤ t) (until : t ≤ stop r box) where
+    module _ {f : Ratio} {t : ℕ} (F : Is f t (d_of r)) (after : start r box ≤ t) (until : t ≤ stop r box) where
       most : t ≤ d_of r
       most = le_trans until (stop_cap r box)
 
       abbrev In : Line → ℕ → Type 0
       In x d = Between (plane x 0) (plane x x.n) x.p x.q t d
 
-      between : (o : Side) → In (line_of m (axis_of g o) (leg r o).p (leg r o).q) (d_of r)
+      between : (o : Side) → In (line_of m (of_side g o) (leg r o).p (leg r o).q) (d_of r)
       between o =
           let to = le_of_eq (sym (stop_same m g r H.ok)) in
           let some = lt_of_lt_of_le (lt_of_le_of_lt zero-le H.strict) to in
@@ -97,7 +99,7 @@ module _ (m : Limits) (g : Grid) (r : Ray) where
       in_planes : (o : Side) → InPlanes o (box o)
       in_planes o =
           subst (InPlanes o) (sym (array_is o))
-          (planes_hold m (leg r o) (ends_inside m r H.ok.ends o) (axis_of g o) (axes_ok m g H.ok.grid o).near t (d_of r) most (d_pos r) (between o))
+          (planes_hold m (leg r o) (ends_inside m r H.ok.ends o) (of_side g o) (axes_ok m g H.ok.grid o).near t (d_of r) most (d_pos r) (between o))
 
       drawn : Drawn g r t (point_at r t (d_of r))
       drawn = record {
@@ -113,7 +115,7 @@ module _ (m : Limits) (g : Grid) (r : Ray) where
           coordinate_is m (leg r o) (ends_inside m r H.ok.ends o) f.num f.den t (d_of r) F.at.den_pos F.at.d_pos most F.at.at in
           rw (at X, at Y, at Z)
 
-    abbrev At : (t : ℕ) → Fraction → Type 0
+    abbrev At : (t : ℕ) → Ratio → Type 0
     At t f = (point_at r f.num f.den ≡ point_at r t (d_of r)) × Drawn g r t (point_at r t (d_of r))
 
     entering : At (start r box) e
@@ -128,15 +130,15 @@ module _ (m : Limits) (g : Grid) (r : Ray) where
   module _ (small : Small m) where
     pub points_is : pointed r (crossing_of m g r) ≡ points_of m g r
     unfolding points_of
-    points_is = answer_is m g r small (pointed r) hitting (λ e l H. rw ((entering H).0, (leaving H).0))
+    points_is = answer_is m g r small (pointed r) hitting (λ t H. rw ((entering H).0, (leaving H).0))
 
     abbrev Both : Points → Type 0
     Both a = a.mark ≡ mark.Hit → Drawn g r (start r box) a.enter × Drawn g r (stop r box) a.leave
 
     from_found : (k : Crossing) → crossing_of m g r ≡ k → Both (pointed r k)
-    from_found (Refused c) h p = let z : ◌≡◌ {A = ℕ} 0 1 = cc in absurd (omega arith)
-    from_found Miss h p = let z : ◌≡◌ {A = ℕ} 0 1 = cc in absurd (omega arith)
-    from_found (Through e l) h p = let H = hit m g r small e l h in rw ((entering H).0, (leaving H).0) ((entering H).1, (leaving H).1)
+    from_found (Err c) h p = let z : ◌≡◌ {A = ℕ} 0 1 = cc in absurd (omega arith)
+    from_found (Ok None) h p = let z : ◌≡◌ {A = ℕ} 0 1 = cc in absurd (omega arith)
+    from_found (Ok (Some t)) h p = let H = hit m g r small t h in rw ((entering H).0, (leaving H).0) ((entering H).1, (leaving H).1)
 
     pub points_drawn : (points_of m g r).mark ≡ mark.Hit → Drawn g r (start r box) (points_of m g r).enter × Drawn g r (stop r box) (points_of m g r).leave
     points_drawn = subst Both points_is (from_found (crossing_of m g r) refl)

@@ -7,20 +7,20 @@ use native.Mathlib.Omega.{arith}
 use lib.Ieee.Positive.{first_pos}
 use Rattle.axis.specs.Leg.{Leg, Slab, factor, held, enters, leaves}
 use Rattle.ray.specs.declared.Ray.{Ray}
-use Rattle.ray.specs.Length.{Side, d_of, rest, array, start, stop, holds}
+use Rattle.ray.specs.declared.axes.Side.{Side}
+use Rattle.ray.specs.Length.{d_of, rest, array, start, stop, holds}
 use Rattle.ray.proofs.Way.{Way, up, down, still, Goes, way, factor_by}
 use Rattle.ray.proofs.Through.{sub_times}
 use Rattle.ray.proofs.Capped.{d_side}
 use Rattle.ray.proofs.Tests.{all_of}
-use Rattle.line.specs.declared.scene.Scene.{Scene}
+use Rattle.line.specs.Scene.{Scene}
 use Rattle.line.specs.Scene.{leg_n, plane, line, volume_of, ray_of}
 use Rattle.line.proofs.Units.{enter_by, leave_by, HeldBy, factor_is, enters_is, leaves_is, held_by}
 use Rattle.line.proofs.Sizes.{two_sizes}
 use Rattle.line.proofs.Three.{le_most, least_le}
 use Rattle.line.proofs.Stretch.{plane_mono, held_array}
 use Rattle.line.proofs.Scenes.{leg_is}
-use Rattle.place.specs.declared.fraction.Fraction.{Fraction}
-use Rattle.place.specs.Deciding.{OnRay}
+use Rattle.place.specs.Ratio.{Ratio, Short}
 
 -- the point t / d of the way from p to q, times d
 abbrev pub spot : ℕ → ℕ → ℕ → ℕ → ℕ
@@ -32,8 +32,8 @@ split p t d h = omega (arith, mul-sub p d t, mul-le-mul_left p h)
 pub spot_most : (p q t d k : ℕ) → p ≤ k → q ≤ k → t ≤ d → spot p q t d ≤ k * d
 spot_most p q t d k hp hq h = omega (arith, mul-le-mul_right (d - t) hp, mul-le-mul_right t hq, split k t d h)
 
-pub spot_short : (p q : ℕ) (f : Fraction) → p ≤ 2 ^ 20 → q ≤ 2 ^ 20 → OnRay f → spot p q f.num f.den ≤ 2 ^ 40
-spot_short p q f hp hq on = le_trans (spot_most p q f.num f.den (2 ^ 20) hp hq on.most) (two_sizes (le_refl (2 ^ 20)) on.short.1)
+pub spot_short : (p q : ℕ) (f : Ratio) → p ≤ 2 ^ 20 → q ≤ 2 ^ 20 → Short f → f.num ≤ f.den → spot p q f.num f.den ≤ 2 ^ 40
+spot_short p q f hp hq short most = le_trans (spot_most p q f.num f.den (2 ^ 20) hp hq most) (two_sizes (le_refl (2 ^ 20)) short.den_size)
 
 -- what lies between two planes
 abbrev pub Between : (lo hi p q t d : ℕ) → Type 0

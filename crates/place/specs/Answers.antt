@@ -5,9 +5,10 @@ use Rattle.std.specs.Float.Ieee.{round}
 use Rattle.axis.specs.Leg.{Leg}
 use Rattle.axis.specs.declared.Limits.{Limits}
 use Rattle.axis.specs.Codes.{first}
-use Rattle.ray.specs.declared.Grid.{Grid}
+use Rattle.ray.specs.Axes.{Grid}
 use Rattle.ray.specs.declared.Ray.{Ray}
-use Rattle.ray.specs.Length.{X, Y, Z, leg, d_of, volume, array, start, stop, misses}
+use Rattle.ray.specs.declared.axes.Side.TheVariants.{X, Y, Z}
+use Rattle.ray.specs.Length.{leg, d_of, volume, array, start, stop, misses}
 use Rattle.ray.specs.Codes.{grid_rows, end_rows}
 use Rattle.place.specs.declared.Place.{Place}
 use Rattle.place.specs.declared.Place.TheVariants.{Refused, Miss, Hit}

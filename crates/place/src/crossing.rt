@@ -1,108 +1,65 @@
 // Between which places on the ray it is in the array, each as a fraction over the deciding axis' difference.
-ghost use Rattle.std.specs.Prelude.{◌≡◌, ◌&&◌};
+ghost use Rattle.std.specs.Prelude.{◌≡◌};
 ghost use Rattle.line.specs.Scene.{Sized, Able};
 ghost use Rattle.line.specs.Raised.{Small};
-ghost use Rattle.place.specs.Answers.{refusal_of};
-ghost use Rattle.place.specs.Deciding.{Short, stretch_of, αmin, αmax, through_of, crossing_of};
+ghost use Rattle.place.specs.Deciding.{stretch_of, through_of, numbered, crossing_of};
 
-use crate::fraction::{Fraction, greater_of, less, lesser_of};
+use crate::fraction::Fraction;
 use axis::Limits;
+use axis::refusal::Refusal;
 use line::line::Line;
 use line::scene::{Scene, scene_of};
 use ray::{Grid, Ray};
 
-// What one axis leaves of the ray, from enter to leave, and whether it holds a ray that stands still on it.
+// A stretch of the ray, from the lesser α to the greater.
 #[derive(Clone, Copy)]
 pub struct Stretch {
     pub enter: Fraction,
     pub leave: Fraction,
-    pub held: bool,
 }
 
-// What is found of a ray: a refusal's code, a miss, or αmin and αmax.
-#[derive(Clone, Copy)]
-pub enum Crossing {
-    Refused(u32),
-    Miss,
-    Through(Fraction, Fraction),
-}
-
-fn refusal(m: Limits, g: Grid, r: Ray) -> u32
-    ensures { result ≡ refusal_of m g r }
-{
-    let code = ray::check::grid_code(m, g);
-    if code == 0 {
-        ray::check::ends_code(m, r)
-    } else {
-        code
-    }
-}
-
-// With one tick to a unit, so that enter and leave are parts of the axis' own difference.
-fn stretch_of(a: Line) -> Stretch
+// What one axis leaves of the ray: none where it does not hold a ray that stands still on it. With one tick to a unit, enter and
+// leave are parts of the axis' own difference.
+fn stretch_of(a: Line) -> Option<Stretch>
     requires { Sized a }
-    ensures value { result ≡ stretch_of a }
-    ensures short { Short result.enter × Short result.leave }
+    ensures { result ≡ stretch_of a }
 {
     let reach = a.reach(1);
     let den = a.factor();
-    Stretch {
-        enter: Fraction {
-            num: reach.from,
-            den,
-        },
-        leave: Fraction { num: reach.to, den },
-        held: reach.held,
+    let enter = Fraction {
+        num: reach.from,
+        den,
+    };
+    let leave = Fraction { num: reach.to, den };
+    if reach.held {
+        Some(Stretch { enter, leave })
+    } else {
+        None
     }
 }
 
-fn all(x: bool, y: bool, z: bool) -> bool
-    ensures { result ≡ (x && (y && z)) }
-{
-    if x { if y { z } else { false } } else { false }
-}
-
-fn alpha_min(x: Stretch, y: Stretch, z: Stretch) -> Fraction
-    requires { Short x.enter × (Short y.enter × Short z.enter) }
-    ensures value { result ≡ αmin x y z }
-    ensures short { Short result }
-{
-    greater_of(x.enter, greater_of(y.enter, z.enter))
-}
-
-fn alpha_max(x: Stretch, y: Stretch, z: Stretch) -> Fraction
-    requires { Short x.leave × (Short y.leave × Short z.leave) }
-    ensures value { result ≡ αmax x y z }
-    ensures short { Short result }
-{
-    let whole = Fraction { num: 1, den: 1 };
-    lesser_of(whole, lesser_of(x.leave, lesser_of(y.leave, z.leave)))
-}
-
-fn through(s: Scene) -> Crossing
+// αmin and αmax.
+fn through(s: Scene) -> Option<Stretch>
     requires { Able s }
     ensures { result ≡ through_of s }
 {
-    let x = stretch_of(s.x);
-    let y = stretch_of(s.y);
-    let z = stretch_of(s.z);
-    let enter = alpha_min(x, y, z);
-    let leave = alpha_max(x, y, z);
-    if all(x.held, y.held, z.held) {
-        if less(enter, leave) {
-            return Crossing::Through(enter, leave);
-        }
+    let x = stretch_of(s.x)?;
+    let y = stretch_of(s.y)?;
+    let z = stretch_of(s.z)?;
+    let enter = x.enter.max(y.enter.max(z.enter));
+    let leave = Fraction::WHOLE.min(x.leave.min(y.leave.min(z.leave)));
+    if enter.is_below(leave) {
+        Some(Stretch { enter, leave })
+    } else {
+        None
     }
-    Crossing::Miss
 }
 
-pub fn across(m: Limits, g: Grid, r: Ray) -> Crossing
+pub fn across(m: Limits, g: Grid, r: Ray) -> Result<Option<Stretch>, Refusal>
     requires { Small m }
-    ensures { result ≡ crossing_of m g r }
+    ensures { numbered result ≡ crossing_of m g r }
 {
-    let code = refusal(m, g, r);
-    if code != 0 {
-        return Crossing::Refused(code);
-    }
-    through(scene_of(m, g, r))
+    ray::check::grid(m, g)?;
+    ray::check::ends(m, r)?;
+    Ok(through(scene_of(m, g, r)))
 }

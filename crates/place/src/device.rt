@@ -4,8 +4,7 @@ ghost use Rattle.line.specs.Raised.{Small};
 ghost use Rattle.place.specs.Answers.{refusal_of, place_of, told, told_of, nowhere, mark_code, points_of};
 
 use crate::coordinate::point_at;
-use crate::crossing::{Crossing, across};
-use crate::fraction::quotient;
+use crate::crossing::across;
 use crate::{Mark, Place, Point, Points};
 use axis::Limits;
 use ray::{Grid, Ray};
@@ -15,15 +14,13 @@ pub fn place(m: Limits, g: Grid, r: Ray) -> Place
     ensures value { result ≡ place_of m g r }
     ensures numbers { told result ≡ told_of m g r }
 {
-    let c = across(m, g, r);
-    match c {
-        Crossing::Refused(code) => Place::Refused(code),
-        Crossing::Miss => Place::Miss,
-        Crossing::Through(e, l) => {
-            let enter = quotient(e);
-            let leave = quotient(l);
-            Place::Hit { enter, leave }
-        }
+    match across(m, g, r) {
+        Err(refusal) => Place::Refused(u32::from(refusal)),
+        Ok(None) => Place::Miss,
+        Ok(Some(t)) => Place::Hit {
+            enter: t.enter.nearest(),
+            leave: t.leave.nearest(),
+        },
     }
 }
 
@@ -48,15 +45,13 @@ pub fn points(m: Limits, g: Grid, r: Ray) -> Points
     ensures value { result ≡ points_of m g r }
     ensures code { mark_code result.mark ≡ refusal_of m g r }
 {
-    let c = across(m, g, r);
-    match c {
-        Crossing::Refused(code) => unplaced(Mark::Refused(code)),
-        Crossing::Miss => unplaced(Mark::Miss),
-        Crossing::Through(e, l) => {
-            let mark = Mark::Hit;
-            let enter = point_at(m, r, e);
-            let leave = point_at(m, r, l);
-            Points { mark, enter, leave }
-        }
+    match across(m, g, r) {
+        Err(refusal) => unplaced(Mark::Refused(u32::from(refusal))),
+        Ok(None) => unplaced(Mark::Miss),
+        Ok(Some(t)) => Points {
+            mark: Mark::Hit,
+            enter: point_at(m, r, t.enter),
+            leave: point_at(m, r, t.leave),
+        },
     }
 }

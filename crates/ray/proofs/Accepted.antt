@@ -1,24 +1,25 @@
 -- What the codes of a grid and of ends say, at any limits. Assumes nothing.
 use Prim.Native.Nat.{ℕ}
 use mathlib.Core.Path.{◌≡◌, refl, ap, ◌∙◌}
-use mathlib.Core.Bool.{Bool, true, not, ◌||◌, cond}
+use mathlib.Core.Bool.{Bool, true, false, not, ◌&&◌, ◌||◌, cond}
 use borrow.Author.Tests.{not-false}
-use Rattle.axis.specs.declared.Axis.{Axis}
 use Rattle.axis.specs.declared.Limits.{Limits}
+use lib.IntN.{ℤ}
+use Rattle.std.specs.Int.Signed.{lt_z}
+use Rattle.std.specs.Ordering.{int_eq, is_eq}
+use Rattle.std.proofs.Common.{Less, Equal, Greater}
 use Rattle.axis.specs.Leg.{moving}
 use Rattle.axis.specs.Codes.{inside, first, beyond, planes_out}
 use Rattle.axis.proofs.Table.{off, either}
 use Rattle.axis.proofs.Bounds.{AxisOk, axis_ok}
-use Rattle.ray.specs.declared.Grid.{Grid}
+use Rattle.ray.specs.Axes.{Grid}
 use Rattle.ray.specs.declared.Ray.{Ray}
-use Rattle.ray.specs.Length.{Side, X, Y, Z, leg}
+use Rattle.ray.specs.Side.{of_side}
+use Rattle.ray.specs.declared.axes.Side.{Side}
+use Rattle.ray.specs.declared.axes.Side.TheVariants.{X, Y, Z}
+use Rattle.ray.specs.Length.{leg}
 use Rattle.ray.specs.Codes.{grid_rows, end_rows}
 use Rattle.ray.proofs.Tests.{any}
-
-abbrev pub axis_of : Grid → Side → Axis
-axis_of g X = g.x
-axis_of g Y = g.y
-axis_of g Z = g.z
 
 -- one code asked of x, y and z
 asked : (c : ℕ) (b : Side → Bool) (d : ℕ) → cond (b X) c (cond (b Y) c (cond (b Z) c d)) ≡ cond (any b) c d
@@ -27,13 +28,13 @@ asked c b d = ap (cond (b X) c) (either c (b Y) (b Z) d) ∙ either c (b X) (b Y
 -- the codes of a grid, each by a test of some side
 module _ (m : Limits) (g : Grid) where
   abbrev no_n : Side → Bool
-  no_n o = beyond m.n (axis_of g o).n
+  no_n o = beyond m.n (of_side g o).n
 
   abbrev no_d : Side → Bool
-  no_d o = beyond m.d (axis_of g o).d
+  no_d o = beyond m.d (of_side g o).d
 
   abbrev no_planes : Side → Bool
-  no_planes o = planes_out m (axis_of g o)
+  no_planes o = planes_out m (of_side g o)
 
   pub grid_are : first (grid_rows m g) ≡ cond (any no_n) 1 (cond (any no_d) 2 (cond (any no_planes) 3 0))
   grid_are = asked 1 no_n _ ∙ ap (cond (any no_n) 1) (asked 2 no_d _ ∙ ap (cond (any no_d) 2) (asked 3 no_planes 0))
@@ -58,8 +59,25 @@ module _ (m : Limits) (r : Ray) where
       ∙ ap (cond (out X) 5) (either 5 (no_p Y) (no_q Y) _ ∙ ap (cond (out Y) 5) (either 5 (no_p Z) (no_q Z) _))
       ∙ asked 5 out _
 
+-- equal on an axis where it does not move, and equal ends where none does
+still : (p q : ℤ) → int_eq p q ≡ not (moving (record { p = p; q = q }))
+still p q = by (lt_z p q) (lt_z q p)
+  where
+    by : (a b : Bool) → is_eq (cond a Less (cond b Greater Equal)) ≡ not (a || b)
+    by true b = refl
+    by false true = refl
+    by false false = refl
+
+pub ends_equal : (r : Ray) → (int_eq r.p.x r.q.x && (int_eq r.p.y r.q.y && int_eq r.p.z r.q.z)) ≡ not (any (moves r))
+ends_equal r = rw (still r.p.x r.q.x, still r.p.y r.q.y, still r.p.z r.q.z) (none (moves r X) (moves r Y) (moves r Z))
+  where
+    none : (a b c : Bool) → (not a && (not b && not c)) ≡ not (a || (b || c))
+    none true b c = refl
+    none false true c = refl
+    none false false c = refl
+
 module _ (m : Limits) where
-  pub axes_ok : (g : Grid) → first (grid_rows m g) ≡ 0 → (o : Side) → AxisOk m (axis_of g o)
+  pub axes_ok : (g : Grid) → first (grid_rows m g) ≡ 0 → (o : Side) → AxisOk m (of_side g o)
   axes_ok g h X = let o = off (grid_rows m g) refl h in axis_ok m g.x o.0 o.1.1.1.0 o.1.1.1.1.1.1.0
   axes_ok g h Y = let o = off (grid_rows m g) refl h in axis_ok m g.y o.1.0 o.1.1.1.1.0 o.1.1.1.1.1.1.1.0
   axes_ok g h Z = let o = off (grid_rows m g) refl h in axis_ok m g.z o.1.1.0 o.1.1.1.1.1.0 o.1.1.1.1.1.1.1.1.0

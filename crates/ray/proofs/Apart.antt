@@ -13,7 +13,9 @@ use borrow.Author.Tests.{ne_eqb}
 use Rattle.axis.specs.Leg.{moving, run, Slab, held}
 use Rattle.axis.proofs.Flag.{and_left, and_right}
 use Rattle.ray.specs.declared.Ray.{Ray}
-use Rattle.ray.specs.Length.{Side, X, Y, Z, leg, d_of, rest, Volume, count, index, voxel, start, stop, part_of}
+use Rattle.ray.specs.declared.axes.Side.{Side}
+use Rattle.ray.specs.declared.axes.Side.TheVariants.{X, Y, Z}
+use Rattle.ray.specs.Length.{leg, d_of, rest, Volume, count, index, voxel, start, stop, part_of}
 use Rattle.ray.proofs.Through.{cap_rises}
 use Rattle.ray.proofs.Tests.{tested, all_of}
 use Rattle.ray.proofs.Told.{le_shift, lt_shift, level, natural_rises, natural_falls}

@@ -4,7 +4,7 @@ use mathlib.Core.Path.{◌≡◌, refl}
 use mathlib.Core.List.{List, [], ◌∷◌, map}
 use lib.IntN.{ℤ, pos, negsuc}
 use Rattle.axis.specs.Codes.{tenths, first}
-use Rattle.ray.specs.declared.Grid.{Grid}
+use Rattle.ray.specs.Axes.{Grid}
 use Rattle.ray.specs.declared.Ray.{Ray}
 use Rattle.ray.specs.Length.{volume, d_of, squared_of, part_of, misses, span_of, insert, list_to, list_of, total, sum_of, crosses, crossed_of}
 use Rattle.ray.specs.Codes.{trace_rows}

@@ -9,7 +9,9 @@ use native.Mathlib.Omega.{arith}
 use lib.IntN.{ℤ}
 use Rattle.axis.specs.Leg.{moving, factor, run, Slab, enters, leaves}
 use Rattle.ray.specs.declared.Ray.{Ray}
-use Rattle.ray.specs.Length.{Side, X, Y, Z, leg, d_of, rest, Volume, voxel, holds, start, stop, part_of}
+use Rattle.ray.specs.declared.axes.Side.{Side}
+use Rattle.ray.specs.declared.axes.Side.TheVariants.{X, Y, Z}
+use Rattle.ray.specs.Length.{leg, d_of, rest, Volume, voxel, holds, start, stop, part_of}
 use Rattle.ray.proofs.Through.{Rises, over, max_rises, min_rises, sides_as, either_as, min_cap_rises, times_rises, cap_rises}
 use Rattle.ray.proofs.Tests.{tested}
 use Rattle.ray.proofs.Way.{passed, factor_pos}

@@ -9,9 +9,10 @@ use native.Mathlib.Omega.{arith}
 use lib.IntN.{nat_abs, ◌-ℤ◌}
 use lib.ListN.{get_or}
 use Rattle.axis.specs.Leg.{moving, factor, Slab}
-use Rattle.ray.specs.declared.End.{End}
+use Rattle.ray.specs.Axes.{End}
 use Rattle.ray.specs.declared.Ray.{Ray}
-use Rattle.ray.specs.Length.{Side, leg, d_of, rest, Volume, count, voxel, part_of, total, sum_of}
+use Rattle.ray.specs.declared.axes.Side.{Side}
+use Rattle.ray.specs.Length.{leg, d_of, rest, Volume, count, voxel, part_of, total, sum_of}
 use Rattle.ray.proofs.Total.{total_same, total_add, total_times}
 use Rattle.ray.proofs.Way.{factor_pos}
 use Rattle.ray.proofs.Capped.{part, part_voxel, d_side, d_pos}

@@ -3,9 +3,11 @@ use mathlib.Core.Path.{◌≡◌, refl}
 use mathlib.Core.List.{[], ◌∷◌}
 use native.Mathlib.Omega.{arith}
 use lib.IntN.{pos, negsuc, ◌-ℤ◌, ◌*ℤ◌}
-use Rattle.ray.specs.declared.End.{End}
+use Rattle.ray.specs.Axes.{End}
 use Rattle.ray.specs.declared.Ray.{Ray}
-use Rattle.ray.specs.Length.{Side, X, Y, Z, leg, volume, part_of, insert, list_to, list_of}
+use Rattle.ray.specs.declared.axes.Side.{Side}
+use Rattle.ray.specs.declared.axes.Side.TheVariants.{X, Y, Z}
+use Rattle.ray.specs.Length.{leg, volume, part_of, insert, list_to, list_of}
 use Rattle.ray.proofs.Bench.{grid, ray}
 use Rattle.ray.proofs.CutBox.{coordinate, Between, near, far}
 use Rattle.ray.proofs.Seam.{past, joined}

@@ -8,9 +8,12 @@ use native.Mathlib.Omega.{arith}
 use native.Mathlib.Decide.{dec_le}
 use lib.IntN.{ℤ, pos, ◌-ℤ◌, ◌*ℤ◌}
 use Rattle.axis.specs.Leg.{moving, factor, Slab}
-use Rattle.ray.specs.declared.End.{End}
+use Rattle.ray.specs.Axes.{End}
 use Rattle.ray.specs.declared.Ray.{Ray}
-use Rattle.ray.specs.Length.{Side, X, Y, Z, leg, d_of, rest, holds, start, stop}
+use Rattle.ray.specs.Side.{of_side}
+use Rattle.ray.specs.declared.axes.Side.{Side}
+use Rattle.ray.specs.declared.axes.Side.TheVariants.{X, Y, Z}
+use Rattle.ray.specs.Length.{leg, d_of, rest, holds, start, stop}
 use Rattle.ray.proofs.Through.{Rises, rises_back, min_cap_rises, times_rises, sub_times, min_rises}
 use Rattle.ray.proofs.Tests.{tested}
 use Rattle.ray.proofs.Way.{passed, factor_pos}
@@ -18,9 +21,7 @@ use Rattle.ray.proofs.Capped.{on_passed, d_side, rest_pos, begin, part, part_hel
 use Rattle.ray.proofs.CutLeg.{CutAt, LegPiece, LegPieces, pieces}
 
 abbrev pub coordinate : End → Side → ℤ
-coordinate m X = m.x
-coordinate m Y = m.y
-coordinate m Z = m.z
+coordinate = of_side
 
 -- M is P + α(Q - P) with α, the fraction n/d, strictly between 0 and 1 (equation (2))
 pub record Between (r : Ray) (m : End) : Type 0 where

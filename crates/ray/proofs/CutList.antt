@@ -10,10 +10,11 @@ use native.Mathlib.Decide.{dec_lt}
 use Rattle.axis.specs.Leg.{moving}
 use Rattle.axis.specs.declared.Limits.{Limits}
 use Rattle.axis.specs.Codes.{first}
-use Rattle.ray.specs.declared.Grid.{Grid}
-use Rattle.ray.specs.declared.End.{End}
+use Rattle.ray.specs.Axes.{Grid}
+use Rattle.ray.specs.Axes.{End}
 use Rattle.ray.specs.declared.Ray.{Ray}
-use Rattle.ray.specs.Length.{Side, leg, d_of, Volume, volume, count, voxel, stop, part_of, list_of, sum_of}
+use Rattle.ray.specs.declared.axes.Side.{Side}
+use Rattle.ray.specs.Length.{leg, d_of, Volume, volume, count, voxel, stop, part_of, list_of, sum_of}
 use Rattle.ray.specs.Codes.{end_rows}
 use Rattle.ray.proofs.Through.{rises_back}
 use Rattle.ray.proofs.Rising.{Rising, rising_as}

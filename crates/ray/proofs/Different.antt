@@ -12,7 +12,9 @@ use borrow.Author.Tests.{eq-eqb, ne_eqb}
 use Rattle.axis.specs.Leg.{moving, run}
 use Rattle.axis.proofs.Flag.{and_left, and_right}
 use Rattle.ray.specs.declared.Ray.{Ray}
-use Rattle.ray.specs.Length.{Side, X, Y, Z, leg, d_of, rest, Volume, volume, array, start, stop, total, crosses}
+use Rattle.ray.specs.declared.axes.Side.{Side}
+use Rattle.ray.specs.declared.axes.Side.TheVariants.{X, Y, Z}
+use Rattle.ray.specs.Length.{leg, d_of, rest, Volume, volume, array, start, stop, total, crosses}
 use Rattle.ray.proofs.Tests.{tested, any_by, between_means, means_between}
 use Rattle.ray.proofs.Bench.{grid, ray}
 

@@ -10,9 +10,11 @@ use Rattle.axis.specs.declared.Limits.{Limits}
 use Rattle.axis.specs.Codes.{inside, first}
 use Rattle.axis.proofs.Flag.{and_left, and_right}
 use Rattle.axis.proofs.Table.{off}
-use Rattle.ray.specs.declared.End.{End}
+use Rattle.ray.specs.Axes.{End}
 use Rattle.ray.specs.declared.Ray.{Ray}
-use Rattle.ray.specs.Length.{Side, X, Y, Z, leg}
+use Rattle.ray.specs.declared.axes.Side.{Side}
+use Rattle.ray.specs.declared.axes.Side.TheVariants.{X, Y, Z}
+use Rattle.ray.specs.Length.{leg}
 use Rattle.ray.specs.Codes.{end_rows}
 use Rattle.ray.proofs.Tests.{any, any_by, any_of}
 use Rattle.ray.proofs.Accepted.{out, moves, ends_are, ends_inside}

@@ -10,7 +10,8 @@ use borrow.Author.Tests.{eq-eqb, ne_eqb}
 use Rattle.axis.specs.Leg.{moving, slab, held}
 use Rattle.axis.proofs.Flag.{is_true, off_or_on, and_right}
 use Rattle.ray.specs.declared.Ray.{Ray}
-use Rattle.ray.specs.Length.{Side, leg, Volume, index, voxel}
+use Rattle.ray.specs.declared.axes.Side.{Side}
+use Rattle.ray.specs.Length.{leg, Volume, index, voxel}
 use Rattle.ray.proofs.Tests.{all_of}
 use Rattle.ray.proofs.Told.{lt_le}
 use Rattle.ray.proofs.Planes.{Rise, rise_to}

@@ -7,7 +7,9 @@ use native.Mathlib.Decide.{ℕ_discrete}
 use lib.Dec.{eqb}
 use borrow.Author.Tests.{eq-eqb, ne_eqb}
 use Rattle.ray.specs.declared.Ray.{Ray}
-use Rattle.ray.specs.Length.{Side, X, Y, Z, d_of, Volume, misses, total, crosses, crossed_of}
+use Rattle.ray.specs.declared.axes.Side.{Side}
+use Rattle.ray.specs.declared.axes.Side.TheVariants.{X, Y, Z}
+use Rattle.ray.specs.Length.{d_of, Volume, misses, total, crosses, crossed_of}
 use Rattle.ray.proofs.Total.{total_le, total_add, total_zero}
 use Rattle.ray.proofs.Different.{alpha_of, some, crosses_at, crossed_at, different_of}
 

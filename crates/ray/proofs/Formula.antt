@@ -13,7 +13,9 @@ use lib.Dec.{leb, leb-zero}
 use borrow.Author.Tests.{not-true}
 use Rattle.axis.specs.Leg.{Leg, moving, factor, run, natural, Slab, enters, leaves}
 use Rattle.ray.specs.declared.Ray.{Ray}
-use Rattle.ray.specs.Length.{Side, X, Y, Z, leg, d_of, rest, Volume, voxel, holds, start, stop, part_of}
+use Rattle.ray.specs.declared.axes.Side.{Side}
+use Rattle.ray.specs.declared.axes.Side.TheVariants.{X, Y, Z}
+use Rattle.ray.specs.Length.{leg, d_of, rest, Volume, voxel, holds, start, stop, part_of}
 use Rattle.ray.proofs.Through.{min_rises, max_rises, times_rises}
 use Rattle.ray.proofs.Tests.{tested}
 use Rattle.ray.proofs.Told.{lt_le, le_diff, neg_diff}

@@ -9,7 +9,8 @@ use borrow.Author.Tests.{leb-false}
 use Rattle.axis.specs.Leg.{moving}
 use Rattle.axis.proofs.Flag.{or_left}
 use Rattle.ray.specs.declared.Ray.{Ray}
-use Rattle.ray.specs.Length.{Side, leg, d_of, Volume, array, holds, start, stop, misses, span_of, crosses}
+use Rattle.ray.specs.declared.axes.Side.{Side}
+use Rattle.ray.specs.Length.{leg, d_of, Volume, array, holds, start, stop, misses, span_of, crosses}
 use Rattle.ray.proofs.Tests.{tested}
 use Rattle.ray.proofs.Fraction.{◌≤ᶠ◌, ◌<ᶠ◌, minus, Is, above_zero, le_at, between_at, minus_at}
 use Rattle.ray.proofs.Formula.{α, α_at, αmin, αmax, αmin_is, αmax_at, αmax_is}

@@ -8,7 +8,9 @@ use lib.Dec.{leb, ltb, eqb}
 use lib.ListN.{get_or}
 use Rattle.axis.specs.Leg.{Slab, slab, moving, factor, run, held, enters, leaves}
 use Rattle.ray.specs.declared.Ray.{Ray}
-use Rattle.ray.specs.Length.{Side, X, Y, Z, leg, d_of, rest, squared_of, Volume, count, array, index, voxel, holds, start, stop, part_of, misses, span_of, insert, list_to, list_of, total, sum_of, crosses, crossed_of}
+use Rattle.ray.specs.declared.axes.Side.{Side}
+use Rattle.ray.specs.declared.axes.Side.TheVariants.{X, Y, Z}
+use Rattle.ray.specs.Length.{leg, d_of, rest, squared_of, Volume, count, array, index, voxel, holds, start, stop, part_of, misses, span_of, insert, list_to, list_of, total, sum_of, crosses, crossed_of}
 use Rattle.ray.proofs.Different.{alpha_of, some, crossed_at, different_of}
 use Rattle.ray.proofs.MovedAxis.{leg_on, slab_on, diff_on, moving_on, factor_on, run_on, held_on, enters_on, leaves_on}
 

@@ -8,8 +8,10 @@ use lib.Signed.{le_z, ≤ℤ_refl}
 use Rattle.axis.specs.declared.Axis.{Axis}
 use Rattle.axis.specs.Leg.{planes}
 use Rattle.axis.proofs.Flag.{is_true}
-use Rattle.ray.specs.declared.Grid.{Grid}
-use Rattle.ray.specs.Length.{Side, X, Y, Z, Volume, volume}
+use Rattle.ray.specs.Axes.{Grid}
+use Rattle.ray.specs.declared.axes.Side.{Side}
+use Rattle.ray.specs.declared.axes.Side.TheVariants.{X, Y, Z}
+use Rattle.ray.specs.Length.{Volume, volume}
 use Rattle.ray.proofs.Told.{le_through, le_add}
 
 abbrev pub Rise : Volume → Type 0

@@ -5,7 +5,8 @@ use mathlib.Core.Bool.{Bool, true, false, cond}
 use native.Mathlib.Nat.{min_comm, max_comm, min-eq_left, min-eq_right, max-eq_left, max-eq_right, mul-le-mul_right, mul-sub, mul_comm}
 use native.Mathlib.Omega.{arith}
 use native.Mathlib.Decide.{dec_le}
-use Rattle.ray.specs.Length.{Side, X, Y, Z}
+use Rattle.ray.specs.declared.axes.Side.{Side}
+use Rattle.ray.specs.declared.axes.Side.TheVariants.{X, Y, Z}
 
 abbrev pub Rises : (ℕ → ℕ) → Type 0
 Rises h = (x y : ℕ) → x ≤ y → h x ≤ h y

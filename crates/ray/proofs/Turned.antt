@@ -14,7 +14,9 @@ use Rattle.axis.specs.Leg.{Leg, moving, factor, Slab, held}
 use Rattle.axis.proofs.Flag.{off_or_on}
 use Rattle.axis.proofs.Shift.{shift}
 use Rattle.ray.specs.declared.Ray.{Ray}
-use Rattle.ray.specs.Length.{Side, X, Y, Z, leg, d_of, rest, squared_of, Volume, count, array, voxel, holds, start, stop, part_of, misses, span_of, total, sum_of, crosses, crossed_of}
+use Rattle.ray.specs.declared.axes.Side.{Side}
+use Rattle.ray.specs.declared.axes.Side.TheVariants.{X, Y, Z}
+use Rattle.ray.specs.Length.{leg, d_of, rest, squared_of, Volume, count, array, voxel, holds, start, stop, part_of, misses, span_of, total, sum_of, crosses, crossed_of}
 use Rattle.ray.proofs.Through.{max_falls, min_falls, sides_as, either_as, sub_times}
 use Rattle.ray.proofs.Down.{down_falls, later, Flipped, gap_down, leb_down, crossing_down}
 use Rattle.ray.proofs.Tests.{tested}

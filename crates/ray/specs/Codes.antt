@@ -3,10 +3,11 @@ use Rattle.std.specs.Prelude.{◌+◌, not, ◌||◌, List, [], ◌∷◌, ◌++
 use Rattle.axis.specs.Leg.{moving}
 use Rattle.axis.specs.declared.Limits.{Limits}
 use Rattle.axis.specs.Codes.{inside, Row, row, each, axis_rows}
-use Rattle.ray.specs.declared.Grid.{Grid}
+use Rattle.ray.specs.Axes.{Grid}
 use Rattle.ray.specs.declared.Ray.{Ray}
 use Rattle.ray.specs.declared.Lent.{Lent}
-use Rattle.ray.specs.Length.{X, Y, Z, leg, volume, count, list_of}
+use Rattle.ray.specs.declared.axes.Side.TheVariants.{X, Y, Z}
+use Rattle.ray.specs.Length.{leg, volume, count, list_of}
 
 -- RULES 6: 1, 2 and 3, each asked of x, y and z
 abbrev pub grid_rows : Limits → Grid → List Row

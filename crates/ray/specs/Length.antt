@@ -1,13 +1,10 @@
 -- RULES 3 and 4: part, list, sum, span and planes crossed. Nothing here walks. Definitions only. Assumes nothing.
 use Rattle.std.specs.Prelude.{ℕ, zero, suc, ◌+◌, ◌-◌, ◌*◌, ◌/◌, ◌%◌, min, max, Bool, ◌&&◌, ◌||◌, not, cond, List, [], ◌∷◌, nat_abs, ◌-ℤ◌, leb, ltb, get_or}
+use Rattle.ray.specs.declared.axes.Side.{Side}
+use Rattle.ray.specs.declared.axes.Side.TheVariants.{X, Y, Z}
 use Rattle.axis.specs.Leg.{Planes, planes, Leg, moving, factor, run, Slab, slab, held, enters, leaves}
-use Rattle.ray.specs.declared.Grid.{Grid}
+use Rattle.ray.specs.Axes.{Grid}
 use Rattle.ray.specs.declared.Ray.{Ray}
-
-pub data Side : Type 0 where
-  X : Side
-  Y : Side
-  Z : Side
 
 abbrev pub leg : Ray → Side → Leg
 leg r X = record { p = r.p.x; q = r.q.x }

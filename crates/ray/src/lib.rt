@@ -1,24 +1,16 @@
 // The density volume's grid, the ray through it, what a trace is lent, and the checks of grid and ray.
 #![tactic(auto)]
 
+pub mod axes;
 pub mod check;
 
+use crate::axes::Axes;
 use axis::Axis;
 
-#[derive(Clone, Copy)]
-pub struct Grid {
-    pub x: Axis,
-    pub y: Axis,
-    pub z: Axis,
-}
+pub type Grid = Axes<Axis>;
 
 // An end of a ray, in units of 0.1 mm.
-#[derive(Clone, Copy)]
-pub struct End {
-    pub x: i32,
-    pub y: i32,
-    pub z: i32,
-}
+pub type End = Axes<i32>;
 
 // From p to q.
 #[derive(Clone, Copy)]

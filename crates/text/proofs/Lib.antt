@@ -1,6 +1,5 @@
 -- Laws of the text job's bytes, for the crates above.
 pub mod Split
-pub mod Same
 pub mod Decimal
 pub mod Digits
 pub mod Numeral

@@ -1,19 +1,18 @@
 -- Two answers allowed by a promise of this crate are equal, and so is what it says of a lent list. Assumes nothing.
 use Prim.Native.Nat.{ℕ, suc, ◌+◌, ◌-◌, ◌≤◌}
-use mathlib.Core.Bool.{Bool, true, false, cond, true≢false}
+use mathlib.Core.Bool.{Bool, true, false, cond}
 use mathlib.Core.List.{List, [], ◌∷◌, ◌++◌}
-use mathlib.Core.Option.{Option}
+use Rattle.std.specs.Prelude.{⊤, Option, Some, None}
 use mathlib.Core.Path.{◌≡◌, refl, sym, ap, ◌∙◌}
 use native.Mathlib.Omega.{arith}
 use lib.Dec.{eqb}
+use lib.IntN.{ℤ}
 use lib.ListN.{length, take, drop, get_or, length-drop}
 use lib.Seq.{length-take-le}
-use Rattle.text.specs.declared.fields.Span.{Span}
-use Rattle.text.specs.declared.number.Natural.{Natural}
-use Rattle.text.specs.declared.number.Integer.{Integer}
-use Rattle.text.specs.declared.word.Word.{Word}
+use Rattle.std.specs.declared.ops.Range.{Range}
+use Rattle.text.specs.declared.word.Kind.{Kind}
 use Rattle.text.specs.Split.{grow, split, after}
-use Rattle.text.specs.Number.{natural_of, read_natural, integer_of, read_integer}
+use Rattle.text.specs.Number.{natural_of, integer_of}
 use Rattle.text.specs.Numbers.{every, told}
 use Rattle.text.specs.Word.{word_of}
 use Rattle.text.proofs.Split.{Field, split_first}
@@ -25,27 +24,27 @@ once e f = e ∙ sym f
 pub count_once : (line : List ℕ) (r r' : ℕ) → r ≡ length (split 9 line) → r' ≡ length (split 9 line) → r ≡ r'
 count_once line r r' = once
 
-pub first_word_once : (line own : List ℕ) (r r' : Word) → r ≡ word_of own (get_or (split 9 line) 0 []) → r' ≡ word_of own (get_or (split 9 line) 0 []) → r ≡ r'
+pub first_word_once : (line own : List ℕ) (r r' : Option Kind) → r ≡ word_of own (get_or (split 9 line) 0 []) → r' ≡ word_of own (get_or (split 9 line) 0 []) → r ≡ r'
 first_word_once line own r r' = once
 
-pub natural_once : (t : List ℕ) (r r' : Natural) → r ≡ read_natural (natural_of t) → r' ≡ read_natural (natural_of t) → r ≡ r'
+pub natural_once : (t : List ℕ) (r r' : Option ℕ) → r ≡ natural_of t → r' ≡ natural_of t → r ≡ r'
 natural_once t r r' = once
 
-pub integer_once : (t : List ℕ) (r r' : Integer) → r ≡ read_integer (integer_of t) → r' ≡ read_integer (integer_of t) → r ≡ r'
+pub integer_once : (t : List ℕ) (r r' : Option ℤ) → r ≡ integer_of t → r' ≡ integer_of t → r ≡ r'
 integer_once t r r' = once
 
--- what a list tells is told by one answer only, and on true by one list
-told_once : {A : Type 0} (r r' : Bool) (vs vs' : List A) → told r vs ≡ told r' vs' → (r ≡ r') × (r ≡ true → vs ≡ vs')
-told_once true true vs vs' e = (refl, λ h. cc)
-told_once false false vs vs' e = (refl, λ h. absurd (true≢false (sym h)))
-told_once true false vs vs' e = let z : ◌≡◌ {A = ℕ} 0 1 = cc in absurd (omega arith)
-told_once false true vs vs' e = let z : ◌≡◌ {A = ℕ} 0 1 = cc in absurd (omega arith)
+-- what a list tells is told by one answer only, and by one list where there is an answer
+told_once : {A : Type 0} (r r' : Option ⊤) (vs vs' : List A) → told r vs ≡ told r' vs' → (r ≡ r') × (r ≡ Some tt → vs ≡ vs')
+told_once (Some u) (Some w) vs vs' e = (refl, λ h. cc)
+told_once None None vs vs' e = (refl, λ h. cc)
+told_once (Some u) None vs vs' e = cc
+told_once None (Some w) vs vs' e = cc
 
--- `naturals` and `integers`: whether the line is taken, and where it is, the numbers
-pub numbers_once : {A : Type 0} (read : List ℕ → Option A) (line : List ℕ) (k n : ℕ) (r r' : Bool) (out out' : List A)
-    → told r (take n out) ≡ every read n (drop (k + 1) (split 9 line)) → told r' (take n out') ≡ every read n (drop (k + 1) (split 9 line))
-    → (r ≡ r') × (r ≡ true → take n out ≡ take n out')
-numbers_once read line k n r r' out out' e f = told_once r r' (take n out) (take n out') (once e f)
+-- `numbers`: whether the line is taken, and where it is, the numbers
+pub numbers_once : {A : Type 0} (read : List ℕ → Option A) (line : List ℕ) (k n : ℕ) (r r' : Option ⊤) (out out' : List A)
+    → told r out ≡ every read n (drop (k + 1) (split 9 line)) → told r' out' ≡ every read n (drop (k + 1) (split 9 line))
+    → (r ≡ r') × (r ≡ Some tt → out ≡ out')
+numbers_once read line k n r r' out out' e f = told_once r r' out out' (once e f)
 
 -- the writers: the place behind what was written, and all bytes ahead of it
 pub put_once : (before text : List ℕ) (at r r' : ℕ) (out out' : List ℕ) → r ≤ length out → r' ≤ length out'
@@ -80,7 +79,7 @@ module _ (line : List ℕ) (k at e : ℕ) (x : Field 9 line k at e) where
   long : e - at ≡ length (get_or (split 9 line) k [])
   long = sym (length-take-le (e - at) (drop at line) (omega (arith, length-drop at line))) ∙ ap length x.1.0
 
-pub field_once : (line : List ℕ) (k : ℕ) (r r' : Span) → Field 9 line k r.start r.end → Field 9 line k r'.start r'.end → r ≡ r'
+pub field_once : (line : List ℕ) (k : ℕ) (r r' : Range ℕ) → Field 9 line k r.start r.end → Field 9 line k r'.start r'.end → r ≡ r'
 field_once line k r r' x y =
     let ends : r.end ≡ r'.end = omega (arith, behind line k r.start r.end x, behind line k r'.start r'.end y) in
     let starts : r.start ≡ r'.start = omega (arith, long line k r.start r.end x, long line k r'.start r'.end y) in

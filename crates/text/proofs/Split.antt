@@ -1,16 +1,20 @@
 -- Fields, walked from the front of the line. Assumes nothing.
 use Prim.Native.Nat.{ℕ, zero, suc, ◌+◌, ◌-◌, ◌≤◌, ◌<◌}
-use mathlib.Core.Bool.{Bool, true, false, cond}
+use mathlib.Core.Bool.{Bool, true, false, cond, true≢false}
 use mathlib.Core.List.{List, [], ◌∷◌}
 use mathlib.Core.Path.{◌≡◌, refl, ap, sym, ◌∙◌}
 use lib.Dec.{eqb}
 use lib.ListN.{length, get_or, take, drop, drop_of_length-le, length-drop, get_or-eq_default}
-use lib.Seq.{drop-cons, drop-drop, get_or-drop}
+use lib.Seq.{take_all, drop-cons, drop-drop, get_or-drop}
 use native.Mathlib.Nat.{add-zero}
 use native.Mathlib.Omega.{arith}
 use native.Mathlib.Numerals.{add-one}
 use borrow.Author.Tests.{eq-eqb, ne_eqb}
-use Rattle.text.specs.Split.{grow, split, until, after}
+use denote.Ref.{Bor}
+use Rattle.std.specs.Prelude.{Option, Some, None}
+use Rattle.std.specs.List.{slice_split, onto_first}
+use Rattle.std.specs.Slice.{IsGetRangeResult}
+use Rattle.text.specs.Split.{grow, split, until, after, left}
 
 -- cut at n: the field ahead, and those behind
 abbrev cut : ℕ → ℕ → List ℕ → List (List ℕ)
@@ -26,7 +30,17 @@ split_first sep (x ∷ xs) = go (eqb x sep) (split_first sep xs)
     go true e = refl
     go false e = ap (grow x) e
 
-until_within : (sep : ℕ) (xs : List ℕ) → until sep xs ≤ length xs
+-- the library's word for it
+pub slice_split_is : (sep : ℕ) (xs : List ℕ) → slice_split (λ b. eqb b sep) xs ≡ split sep xs
+unfolding split
+slice_split_is sep [] = refl
+slice_split_is sep (x ∷ xs) = ap (λ (l : List (List ℕ)). cond (eqb x sep) ([] ∷ l) (onto_first x l)) (slice_split_is sep xs) ∙ ap (cond (eqb x sep) ([] ∷ split sep xs)) (one_more (split sep xs))
+  where
+    one_more : (l : List (List ℕ)) → onto_first x l ≡ grow x l
+    one_more [] = refl
+    one_more (f ∷ fs) = refl
+
+pub until_within : (sep : ℕ) (xs : List ℕ) → until sep xs ≤ length xs
 unfolding until
 until_within sep [] = omega arith
 until_within sep (x ∷ xs) = go (eqb x sep) (until_within sep xs)
@@ -35,35 +49,21 @@ until_within sep (x ∷ xs) = go (eqb x sep) (until_within sep xs)
     go true h = omega arith
     go false h = omega arith
 
-grown : (x sep : ℕ) (xs : List ℕ) → length (grow x (split sep xs)) ≡ length (split sep xs)
-grown x sep xs = ap (λ (l : List (List ℕ)). length (grow x l)) (split_first sep xs) ∙ sym (ap length (split_first sep xs))
+module _ (sep : ℕ) where
+  pub until_none : until sep [] ≡ 0
+  unfolding until
+  until_none = refl
+
+  pub until_first : (x : ℕ) (xs : List ℕ) → x ≡ sep → until sep (x ∷ xs) ≡ 0
+  unfolding until
+  until_first x xs e = rw (eq-eqb x sep e) refl
+
+  pub until_more : (x : ℕ) (xs : List ℕ) → (x ≡ sep → ⊥) → until sep (x ∷ xs) ≡ until sep xs + 1
+  unfolding until
+  until_more x xs e = rw (ne_eqb x sep e, add-one) refl
 
 -- at an index of a line
 module _ (sep : ℕ) (s : List ℕ) (i : ℕ) where
-  pub until_here : i < length s → get_or s i 0 ≡ sep → until sep (drop i s) ≡ 0
-  unfolding until
-  until_here h e = rw (drop-cons s i 0, eq-eqb (get_or s i 0) sep e) refl
-
-  pub until_on : i < length s → (get_or s i 0 ≡ sep → ⊥) → until sep (drop i s) ≡ suc (until sep (drop (i + 1) s))
-  unfolding until
-  until_on h e = rw (add-one, drop-cons s i 0, ne_eqb (get_or s i 0) sep e) refl
-
-  pub until_end : length s ≤ i → until sep (drop i s) ≡ 0
-  unfolding until
-  until_end h = rw (drop_of_length-le s h) refl
-
-  pub count_here : i < length s → get_or s i 0 ≡ sep → length (split sep (drop i s)) ≡ suc (length (split sep (drop (i + 1) s)))
-  unfolding split
-  count_here h e = rw (add-one, drop-cons s i 0, eq-eqb (get_or s i 0) sep e) refl
-
-  pub count_on : i < length s → (get_or s i 0 ≡ sep → ⊥) → length (split sep (drop i s)) ≡ length (split sep (drop (i + 1) s))
-  unfolding split
-  count_on h e = rw (add-one, drop-cons s i 0, ne_eqb (get_or s i 0) sep e) (grown (get_or s i 0) sep (drop (suc i) s))
-
-  pub count_end : length s ≤ i → length (split sep (drop i s)) ≡ 1
-  unfolding split
-  count_end h = rw (drop_of_length-le s h) refl
-
   pub end_within : i ≤ length s → i + until sep (drop i s) ≤ length s
   end_within h = omega (arith, until_within sep (drop i s), length-drop i s)
 
@@ -87,9 +87,20 @@ fields_from sep s at e ends =
     split_first sep (drop at s)
     ∙ rw (n, ends, drop-drop (until sep (drop at s)) at s) refl
 
--- one field on: the next starts behind the sep
-pub next_field : (sep : ℕ) (s : List ℕ) (e e' : ℕ) → e < length s → e' ≡ e + 1 + until sep (drop (e + 1) s) → after sep (drop e s) ≡ part s (e + 1) e' ∷ after sep (drop e' s)
-next_field sep s e e' h ends = after_sep sep s e h ∙ fields_from sep s (e + 1) e' ends
+-- what is left of a line behind the field that ended where ys begins
+pub left_behind : (ys : List ℕ) (r : Option (Bor (List ℕ))) → IsGetRangeResult ys 1 (length ys) r → left r ≡ after 9 ys
+unfolding after
+left_behind [] None g = refl
+left_behind [] (Some x) g = absurd (omega (arith, g.0.0))
+left_behind (y ∷ ys) None g = absurd (true≢false (sym (g.1 (omega arith, omega arith))))
+left_behind (y ∷ ys) (Some x) g =
+    let n : suc (length ys) - 1 ≡ length ys = omega arith in
+    let whole : take (suc (length ys) - 1) ys ≡ ys = rw n (take_all (length ys) ys (omega arith)) in
+    ap (split 9) (g.0.2 ∙ whole)
+
+-- and the field ahead
+pub left_first : (rest : Option (Bor (List ℕ))) (line : Bor (List ℕ)) (n : ℕ) → rest ≡ Some line → n ≡ until 9 line.now → left rest ≡ take n line.now ∷ after 9 (drop n line.now)
+left_first rest line n e f = ap left e ∙ rw f (split_first 9 line.now)
 
 -- what `field` promises of field k: it starts at `at` and ends at e, and the others follow
 abbrev pub Field : ℕ → List ℕ → ℕ → ℕ → ℕ → Type 0
@@ -101,32 +112,46 @@ pub record Walk (sep : ℕ) (s : List ℕ) (k j at : ℕ) : Type 0 where
   pub few : j ≤ k
   pub rest : drop j (split sep s) ≡ split sep (drop at s)
 
--- and the first of them ends at e
-module _ {sep : ℕ} {s : List ℕ} {k j at : ℕ} (w : Walk sep s k j at) {e : ℕ} (ends : e ≡ at + until sep (drop at s)) where
-  from_here : drop j (split sep s) ≡ part s at e ∷ after sep (drop e s)
-  from_here = w.rest ∙ fields_from sep s at e ends
+pub walk_begins : {sep : ℕ} (s : List ℕ) (k : ℕ) → Walk sep s k 0 0
+walk_begins s k = record { within = omega arith; few = omega arith; rest = refl }
 
-  here : part s at e ≡ get_or (split sep s) j []
+-- and the first of them is n bytes long
+module _ {sep : ℕ} {s : List ℕ} {k j at : ℕ} (w : Walk sep s k j at) {n : ℕ} (long : n ≡ until sep (take (length s - at) (drop at s))) where
+  ends : at + n ≡ at + until sep (drop at s)
+  ends = ap (λ (m : ℕ). at + m) (long ∙ ap (until sep) (take_all (length s - at) (drop at s) (omega (arith, length-drop at s))))
+
+  from_here : drop j (split sep s) ≡ part s at (at + n) ∷ after sep (drop (at + n) s)
+  from_here = w.rest ∙ fields_from sep s at (at + n) ends
+
+  here : part s at (at + n) ≡ get_or (split sep s) j []
   here = sym (ap (λ (l : List (List ℕ)). get_or l 0 []) from_here) ∙ get_or-drop j (split sep s) 0 [] ∙ rw add-zero refl
 
-  behind : after sep (drop e s) ≡ drop (j + 1) (split sep s)
+  behind : after sep (drop (at + n) s) ≡ drop (j + 1) (split sep s)
   behind = sym (sym (drop-drop 1 j (split sep s)) ∙ ap (drop 1) from_here)
 
-  inside : e ≤ length s
-  inside = rw ends (end_within sep s at w.within)
+  pub walk_on : j < k → at + n < length s → Walk sep s k (j + 1) (at + n + 1)
+  walk_on more h = record { within = omega arith; few = omega arith; rest = sym behind ∙ after_sep sep s (at + n) h }
 
-  pub walk_on : j < k → e < length s → Walk sep s k (j + 1) (e + 1)
-  walk_on more h = record { within = omega arith; few = omega arith; rest = sym behind ∙ after_sep sep s e h }
+  module _ (last : k ≤ j) where
+    same : k ≡ j
+    same = omega (arith, w.few)
 
-  pub walk_there : k ≤ j → Field sep s k at e
-  walk_there h =
-      let there : k ≡ j = omega (arith, w.few) in
-      ((omega arith, inside), rw there (here, behind))
+    pub there_field : part s at (at + n) ≡ get_or (split sep s) k []
+    there_field = rw same here
+
+    pub there_behind : after sep (drop (at + n) s) ≡ drop (k + 1) (split sep s)
+    there_behind = rw same behind
 
   -- past the last field
-  pub walk_past : j < k → length s ≤ e → Field sep s k e e
-  walk_past more out =
-      let few : length (split sep s) ≤ k = omega (arith, length-drop (j + 1) (split sep s), ap length (sym behind ∙ after_end sep s e out)) in
-      let fewer : length (split sep s) ≤ k + 1 = omega arith in
-      let none : e - e ≡ 0 = omega arith in
-      ((omega arith, inside), (rw none (sym (get_or-eq_default (split sep s) [] few)), after_end sep s e out ∙ sym (drop_of_length-le (split sep s) fewer)))
+  module _ (more : j < k) (out : length s ≤ at + n) where
+    few : length (split sep s) ≤ k
+    few = omega (arith, length-drop (j + 1) (split sep s), ap length (sym behind ∙ after_end sep s (at + n) out))
+
+    pub past_field : part s (at + n) (at + n) ≡ get_or (split sep s) k []
+    past_field = let none : at + n - (at + n) ≡ 0 = omega arith in rw none (sym (get_or-eq_default (split sep s) [] few))
+
+    pub past_behind : after sep (drop (at + n) s) ≡ drop (k + 1) (split sep s)
+    past_behind = after_end sep s (at + n) out ∙ sym (drop_of_length-le (split sep s) (omega (arith, few)))
+
+-- what walks to a field
+pub ruleset walks = (walk_begins, there_field, there_behind, past_field, past_behind)

@@ -1,13 +1,14 @@
 -- Pieces of a line written one behind the other. Assumes nothing.
-use Prim.Native.Nat.{ℕ, ◌+◌, ◌≤◌, ◌<◌}
+use Prim.Native.Nat.{ℕ, ◌+◌, ◌/◌, ◌%◌, ◌≤◌, ◌<◌}
 use mathlib.Core.List.{List, [], ◌∷◌, ◌++◌, append_assoc, append-nil}
-use mathlib.Core.Path.{◌≡◌, refl, sym, ◌∙◌}
-use lib.ListN.{length, take, drop, get_or, set, drop_of_length-le}
-use lib.Seq.{take-suc, take-suc-set, drop-cons}
+use mathlib.Core.Path.{◌≡◌, refl, sym, ap, ◌∙◌}
+use lib.ListN.{length, take, get_or, set}
+use lib.Seq.{take-suc, take-suc-set}
 use native.Mathlib.Nat.{add-zero}
 use native.Mathlib.Numerals.{add-one}
 use native.Mathlib.Omega.{arith}
 use Rattle.text.specs.Decimal.{decimal}
+use Rattle.text.proofs.Decimal.{decimal_many}
 use Rattle.text.specs.Line.{spaced, line_of}
 
 -- one element behind the first `at`
@@ -24,14 +25,26 @@ copy_on out out₀ src at i h g e =
     let n : at + (i + 1) ≡ at + i + 1 = omega arith in
     rw n (one_put out (at + i) (get_or src i 0) h ∙ rw (e, add-one, take-suc src i 0 g) (simp append_assoc))
 
--- the numbers from i on are still to be written behind `to`
-pub numbers_on : {all to' : List ℕ} (to xs : List ℕ) (i : ℕ) → i < length xs → all ≡ to ++ spaced (drop i xs) → to' ≡ to ++ (32 ∷ decimal (get_or xs i 0)) → all ≡ to' ++ spaced (drop (i + 1) xs)
-unfolding spaced
-numbers_on to xs i h e f = e ∙ rw (add-one, drop-cons xs i 0, f) (sym (append_assoc to (32 ∷ decimal (get_or xs i 0)) _))
+-- the tens, and the last digit
+pub decimal_more : (p : List ℕ) (n : ℕ) → 10 ≤ n → (p ++ decimal (n / 10)) ++ (48 + n % 10) ∷ [] ≡ p ++ decimal n
+decimal_more p n h = rw (decimal_many n h) (append_assoc p (decimal (n / 10)) ((48 + n % 10) ∷ []))
 
-pub numbers_end : {all to : List ℕ} (xs : List ℕ) (i : ℕ) → length xs ≤ i → all ≡ to ++ spaced (drop i xs) → to ≡ all
+pub spaced_none : (p : List ℕ) → p ++ spaced [] ≡ p
 unfolding spaced
-numbers_end {all} {to} xs i h e = sym (e ∙ rw (drop_of_length-le xs h) (append-nil to))
+spaced_none p = append-nil p
+
+spaced_append : (xs ys : List ℕ) → spaced (xs ++ ys) ≡ spaced xs ++ spaced ys
+unfolding spaced
+spaced_append [] ys = refl
+spaced_append (x ∷ xs) ys = ap (λ (l : List ℕ). 32 ∷ (decimal x ++ l)) (spaced_append xs ys) ∙ ap (λ (l : List ℕ). 32 ∷ l) (sym (append_assoc (decimal x) (spaced xs) (spaced ys)))
+
+-- one number more
+pub spaced_more : (p xs : List ℕ) (i : ℕ) → i < length xs → (p ++ spaced (take i xs)) ++ (32 ∷ decimal (get_or xs i 0)) ≡ p ++ spaced (take (i + 1) xs)
+unfolding spaced
+spaced_more p xs i h = append_assoc p (spaced (take i xs)) (32 ∷ decimal (get_or xs i 0)) ∙ ap (λ (l : List ℕ). p ++ l) (sym more)
+  where
+    more : spaced (take (i + 1) xs) ≡ spaced (take i xs) ++ (32 ∷ decimal (get_or xs i 0))
+    more = rw (add-one, take-suc xs i 0 h) (spaced_append (take i xs) (get_or xs i 0 ∷ []) ∙ ap (λ (l : List ℕ). spaced (take i xs) ++ (32 ∷ l)) (append-nil (decimal (get_or xs i 0))))
 
 pub line_made : {o₁ o₂ o₃ : List ℕ} (p word numbers : List ℕ) → o₁ ≡ p ++ word → o₂ ≡ o₁ ++ spaced numbers → o₃ ≡ o₂ ++ 10 ∷ [] → o₃ ≡ p ++ line_of word numbers
 unfolding line_of

@@ -1,5 +1,6 @@
 -- RULES 10.1: lines and fields, parted by one byte. Definitions only. Assumes nothing.
-use Rattle.std.specs.Prelude.{ℕ, zero, suc, cond, List, [], ◌∷◌, eqb}
+use Rattle.std.specs.Prelude.{ℕ, zero, suc, cond, List, [], ◌∷◌, eqb, Option, Some, None}
+use denote.Ref.{Bor}
 
 -- x ahead of the first field
 abbrev pub grow : ℕ → List (List ℕ) → List (List ℕ)
@@ -20,3 +21,8 @@ until sep (x ∷ xs) = cond (eqb x sep) zero (suc (until sep xs))
 unfoldable pub after : ℕ → List ℕ → List (List ℕ)
 after sep [] = []
 after sep (x ∷ xs) = split sep xs
+
+-- the fields of what is left of a line, and none where nothing is
+abbrev pub left : Option (Bor (List ℕ)) → List (List ℕ)
+left None = []
+left (Some rest) = split 9 rest.now

@@ -1,5 +1,5 @@
 // Lines of output, written into a lent buffer. Every writer starts at a place, answers the place
-// behind what it wrote, and keeps what stands ahead of the first.
+// behind what it wrote, and keeps what stands ahead of the first. The buffer is lent and of a fixed size, as there is no heap.
 ghost use Rattle.std.specs.Prelude.{◌≡◌, [], ◌∷◌, ◌++◌, ◌+◌, ◌*◌, ◌≤◌, ◌<◌, length, take};
 ghost use Rattle.text.specs.Decimal.{decimal};
 ghost use Rattle.text.specs.Line.{spaced, line_of};
@@ -18,15 +18,12 @@ pub fn put_bytes(out: &mut [u8], at: usize, bytes: &[u8]) -> usize
     ensures value { result ≡ at + length bytes.now }
     ensures out_after { take result out.new ≡ take at out.old ++ bytes.now }
 {
-    let mut i = 0;
-    while i < bytes.len() {
-        out[at + i] = bytes[i];
-        i += 1;
-    }
-    at + i
+    let end = at + bytes.len();
+    out[at..end].copy_from_slice(bytes);
+    end
 }
 
-#[tactic(auto, using(crate::proofs::Decimal::decimal_one, crate::proofs::Decimal::decimal_many, crate::proofs::Decimal::length_one, crate::proofs::Decimal::length_many))]
+#[tactic(auto, using(crate::proofs::Decimal::decimal_one, crate::proofs::Written::decimal_more, crate::proofs::Decimal::length_one, crate::proofs::Decimal::length_many))]
 pub fn put_decimal(out: &mut [u8], at: usize, x: u64) -> usize
     requires { at + length (decimal x) ≤ length out.old }
     ensures value { result ≡ at + length (decimal x) }
@@ -50,16 +47,15 @@ fn put_spaced(out: &mut [u8], at: usize, x: u64) -> usize
     put_decimal(out, digits, x)
 }
 
+#[tactic(auto, using(crate::proofs::Written::spaced_none, crate::proofs::Written::spaced_more))]
 fn put_numbers(out: &mut [u8], at: usize, numbers: &[u64]) -> usize
     requires { at + 21 * length numbers.now ≤ length out.old }
     ensures upper_bound { result ≤ at + 21 * length numbers.now }
     ensures out_after { take result out.new ≡ take at out.old ++ spaced numbers.now }
 {
-    let mut i = 0;
     let mut to = at;
-    while i < numbers.len() {
-        to = put_spaced(out, to, numbers[i]);
-        i += 1;
+    for x in numbers {
+        to = put_spaced(out, to, *x);
     }
     to
 }

@@ -6,14 +6,15 @@
 // this order, no contract can say; compare/jobs.py compares it.
 #![tactic(auto)]
 
-ghost use Rattle.std.specs.Prelude.{◌+◌, ◌^◌, ◌≤◌, ◌<◌, true, ◌≡◌, length};
+ghost use Rattle.std.specs.Prelude.{◌+◌, ◌^◌, ◌≤◌, ◌<◌, length, IfOk};
 ghost use Rattle.load.specs.Cut.{Begun};
-ghost use Rattle.job.specs.Sound.{Sound, Buffers, read, room};
-ghost use Rattle.trace.specs.Behind.{drained, Standing};
+ghost use Rattle.job.specs.Sound.{Buffers};
+ghost use Rattle.job.specs.Move.{read};
+ghost use Rattle.trace.specs.Behind.{Behind};
 
 use axis::Axis;
 use job::feed::feed;
-use job::state::{Moved, State};
+use job::state::State;
 use job::step::finish;
 use std::io::{self, ErrorKind, Read, Write};
 use std::process::ExitCode;
@@ -25,170 +26,142 @@ const RAYS_MAX: u64 = 18446744073709420544;
 // The status of a program that SIGPIPE ended, as a shell has it: the number of the signal, and 128.
 const SIGPIPE_STATUS: u8 = 141;
 
-// What the program reads, where it answers, and where it tells what went wrong; and whether whoever
-// reads what it writes has gone away.
-#[derive(Drop)]
-pub struct Streams<R, W, E> {
-    input: R,
-    output: W,
-    errors: E,
-    deserted: bool,
-}
-
-// Where the job stands behind a piece of the input; or that it is over.
+// Why no more of the input is answered.
 #[derive(Clone, Copy)]
-pub enum Drained {
-    On(State),
+pub enum Stop {
+    // The job is over.
     Over,
+    // Whoever reads what is written has gone away.
+    Deserted,
+    // What went wrong, as it is told.
+    Failed(&'static [u8]),
 }
 
-// Writes all of the bytes, and holds none of them back, unless a write fails or takes nothing: no
-// write is tried again.
+// Writes all of the bytes, and holds none of them back, unless a write fails or takes nothing. No
+// write is tried again; the library's write_all would try one that was interrupted.
 fn put<W: Write>(to: &mut W, bytes: &[u8]) -> io::Result<()> {
-    let mut done = 0;
-    while done < bytes.len() {
-        let n = to.write(&bytes[done..])?;
-        if n == 0 {
-            return Err(ErrorKind::WriteZero.into());
+    let mut rest = bytes;
+    while !rest.is_empty() {
+        match to.write(rest)? {
+            0 => return Err(ErrorKind::WriteZero.into()),
+            n => rest = &rest[n..],
         }
-        done += n;
     }
     to.flush()
 }
 
-fn tell<R, W, E: Write>(streams: &mut Streams<R, W, E>, why: &[u8]) {
-    if let Err(e) = put(&mut streams.errors, why) {
-        streams.deserted |= e.kind() == ErrorKind::BrokenPipe;
-    }
-}
-
-// Writes the first `at` bytes of out, and tells where that fails; but not where whoever reads them
-// has gone away.
-fn flush<R, W: Write, E: Write>(streams: &mut Streams<R, W, E>, out: &[u8], at: usize) -> bool
-    requires { at ≤ length out.now }
-{
-    let Err(e) = put(&mut streams.output, &out[..at]) else {
-        return true;
-    };
+fn unwritten(e: io::Error) -> Stop {
     if e.kind() == ErrorKind::BrokenPipe {
-        streams.deserted = true;
+        Stop::Deserted
     } else {
-        tell(streams, b"trace: cannot write to standard output\n");
+        Stop::Failed(b"trace: cannot write to standard output\n")
     }
-    false
-}
-
-// Writes what is answered. The job goes on unless it has stopped or the write failed.
-fn sent<R, W: Write, E: Write>(streams: &mut Streams<R, W, E>, m: Moved, out: &[u8]) -> bool
-    requires { m.at ≤ length out.now }
-    ensures { result ≡ true → m.going ≡ true }
-{
-    if flush(streams, out, m.at) {
-        return m.going;
-    }
-    false
 }
 
 // Answers a piece of the input, and writes the answers.
-fn drain<R, W: Write, E: Write>(
-    streams: &mut Streams<R, W, E>,
+fn drain<W: Write>(
+    output: &mut W,
     st: State,
     line: &mut [u8],
     piece: &[u8],
     densities: &mut [u16],
     out: &mut [u8],
-) -> Drained
-    requires sound { Sound st × Begun st.have line.old × Buffers (length line.old) (length densities.old) }
-    requires room_in_bounds { (room ≤ length out.old) × (read st + length piece.now < 2 ^ 64) }
-    ensures { drained result st line.old densities.old piece.now line.new densities.new }
+) -> Result<State, Stop>
+    requires lent { Begun st.have line.old × Buffers line.old densities.old out.old }
+    requires number { read st + length piece.now < 2 ^ 64 }
+    ensures { IfOk result (λ now. Behind st line.old densities.old piece.now now line.new densities.new) }
 {
     let mut here = st;
-    let mut next: usize = 0;
+    let mut next = 0;
     while next < piece.len() {
         let p = feed(here, line, piece, next, densities, out);
         let m = p.moved;
-        if !sent(streams, m, out) {
-            return Drained::Over;
+        put(output, &out[..m.at]).map_err(unwritten)?;
+        if !m.going {
+            return Err(Stop::Over);
         }
         here = m.state;
         next = p.next;
     }
-    Drained::On(here)
+    Ok(here)
 }
 
 // Reads a piece of the input and answers it, or answers the end of the input.
-fn turn<R: Read, W: Write, E: Write>(
-    streams: &mut Streams<R, W, E>,
+fn turn<R: Read, W: Write>(
+    input: &mut R,
+    output: &mut W,
     st: State,
-    input: &mut [u8],
+    piece: &mut [u8],
     line: &mut [u8],
     densities: &mut [u16],
     out: &mut [u8],
-) -> Drained
-    requires sound { Sound st × Begun st.have line.old × Buffers (length line.old) (length densities.old) }
-    requires input_len_bound { (length input.old ≤ 65536) × (room ≤ length out.old) }
-    ensures { Standing result line.new }
+) -> Result<State, Stop>
+    requires lent { Begun st.have line.old × Buffers line.old densities.old out.old }
+    requires piece_len_bound { length piece.old ≤ 65536 }
+    ensures { IfOk result (λ now. Begun now.have line.new) }
 {
     if RAYS_MAX < st.rays {
-        tell(streams, b"trace: more lines than can be numbered\n");
-        return Drained::Over;
+        return Err(Stop::Failed(b"trace: more lines than can be numbered\n"));
     }
-    let Ok(n) = streams.input.read(input) else {
-        tell(streams, b"trace: cannot read standard input\n");
-        return Drained::Over;
+    let Ok(n) = input.read(piece) else {
+        return Err(Stop::Failed(b"trace: cannot read standard input\n"));
     };
     if n == 0 {
         let end = finish(st, out, 0);
-        flush(streams, out, end);
-        return Drained::Over;
+        put(output, &out[..end]).map_err(unwritten)?;
+        return Err(Stop::Over);
     }
-    drain(streams, st, line, &input[..n], densities, out)
+    drain(output, st, line, &piece[..n], densities, out)
 }
 
 // A proved loop has to end, and nothing says that the input does: the reads are counted up to a number
 // that no run uses up.
-fn serve<R: Read, W: Write, E: Write>(
-    streams: &mut Streams<R, W, E>,
-    input: &mut [u8],
+fn serve<R: Read, W: Write>(
+    input: &mut R,
+    output: &mut W,
+    piece: &mut [u8],
     line: &mut [u8],
     densities: &mut [u16],
     out: &mut [u8],
-)
-    requires buffers { Buffers (length line.old) (length densities.old) }
-    requires input_len_bound { (length input.old ≤ 65536) × (room ≤ length out.old) }
+) -> Stop
+    requires buffers { Buffers line.old densities.old out.old }
+    requires piece_len_bound { length piece.old ≤ 65536 }
 {
     let mut st = State::new(Axis::TENTHS);
     for _ in 0..u64::MAX {
-        let drained = turn(streams, st, input, line, densities, out);
-        let Drained::On(next) = drained else {
-            return;
-        };
-        st = next;
+        match turn(input, output, st, piece, line, densities, out) {
+            Ok(now) => st = now,
+            Err(stop) => return stop,
+        }
     }
-    tell(streams, b"trace: more input than can be counted\n");
+    Stop::Failed(b"trace: more input than can be counted\n")
 }
 
 // Every Rattle program ignores SIGPIPE, so that to write where nobody reads any more is an error. It
 // ends this program as the signal would: without a word, and with its status.
 fn main(rt: HostRuntime) -> ExitCode {
-    let mut streams = Streams {
-        input: rt.stdin(),
-        output: rt.stdout(),
-        errors: rt.stderr(),
-        deserted: false,
-    };
-    let mut input: [u8; 65536] = [0; 65536];
+    let mut input = rt.stdin();
+    let mut output = rt.stdout();
+    let mut piece: [u8; 65536] = [0; 65536];
     let mut line: [u8; 4096] = [0; 4096];
     let mut densities: [u16; 4096] = [0; 4096];
     let mut out: [u8; 131072] = [0; 131072];
-    serve(
-        &mut streams,
+    let stop = serve(
         &mut input,
+        &mut output,
+        &mut piece,
         &mut line,
         &mut densities,
         &mut out,
     );
-    if streams.deserted {
+    let deserted = match stop {
+        Stop::Over => false,
+        Stop::Deserted => true,
+        Stop::Failed(why) => {
+            put(&mut rt.stderr(), why).is_err_and(|e| e.kind() == ErrorKind::BrokenPipe)
+        },
+    };
+    if deserted {
         ExitCode::from(SIGPIPE_STATUS)
     } else {
         ExitCode::SUCCESS

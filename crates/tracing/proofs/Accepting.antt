@@ -10,7 +10,7 @@ use borrow.Author.Tests.{not-false, eqb-true, eq-eqb, ne_eqb, ltb-false, lt-ltb,
 use Rattle.axis.specs.declared.Limits.{Limits}
 use Rattle.axis.specs.Codes.{tenths, Row, first, row}
 use Rattle.axis.proofs.Table.{then, then_on, then_stop, then_none, joined, row_off}
-use Rattle.ray.specs.declared.Grid.{Grid}
+use Rattle.ray.specs.Axes.{Grid}
 use Rattle.ray.specs.declared.Ray.{Ray}
 use Rattle.ray.specs.declared.Lent.{Lent}
 use Rattle.ray.specs.Length.{volume, count, list_of}

@@ -5,14 +5,18 @@ use mathlib.Core.Bool.{Bool, true, false}
 use mathlib.Core.List.{List, map}
 use lib.IntN.{ℤ, pos}
 use borrow.Author.Tests.{ne_eqb}
+use Rattle.std.specs.Prelude.{Result, Ok, Err}
+use Rattle.std.specs.Result.{IsErrAnd}
 use Rattle.axis.specs.declared.Limits.{Limits}
-use Rattle.ray.specs.declared.Grid.{Grid}
+use Rattle.axis.specs.declared.refusal.Refusal.{Refusal}
+use Rattle.axis.specs.Refusal.{number}
+use Rattle.ray.specs.Axes.{Grid}
 use Rattle.ray.specs.declared.Ray.{Ray}
 use Rattle.ray.specs.declared.Lent.{Lent}
 use Rattle.ray.specs.Length.{volume, d_of, count, part_of, list_of}
 use Rattle.ray.proofs.TurnedList.{map_same}
 use Rattle.ray.proofs.Moved.{Moved, d_moved, squared_moved, part_moved, span_moved, list_moved, crossed_moved, sum_moved, count_moved}
-use Rattle.line.specs.declared.scene.Scene.{Scene}
+use Rattle.line.specs.Scene.{Scene}
 use Rattle.line.specs.Scene.{volume_of, ray_of, Able}
 use Rattle.line.specs.Raised.{Small, scene_of}
 use Rattle.line.proofs.Raised.{moved, able}
@@ -20,7 +24,12 @@ use Rattle.walk.specs.declared.call.Walked.{Walked}
 use Rattle.walk.specs.Walked.{walked_of, Fitted}
 use Rattle.tracing.specs.declared.Trace.{Trace}
 use Rattle.tracing.specs.Answer.{Lists, lent, code_of, refused, accepted, answer_of, written, voxels_after, parts_after, Answers}
-use Rattle.tracing.specs.Inside.{Accepted, AnswersWhen}
+use Rattle.tracing.specs.Inside.{Accepted, trace_of, AnswersWhen}
+
+-- a refusal handed on by `?`
+pub trace_handed_on : (t : Result Trace Refusal) (x : Refusal) → IsErrAnd t (λ e. e ≡ x) → trace_of t ≡ refused (number x)
+trace_handed_on (Ok t) x h = absurd h
+trace_handed_on (Err e) x h = ap (λ (y : Refusal). refused (number y)) h
 
 module _ (m : Limits) (g : Grid) (r : Ray) (l : Lists) where
   pub refuses : (c : ℕ) {a : Trace} {vs ps : List ℕ} → c ≡ code_of m g r (lent l) → (c ≡ 0 → ⊥) → a ≡ refused c → vs ≡ l.voxels → ps ≡ l.parts → Answers m g r l a vs ps

@@ -10,7 +10,7 @@ use lib.IntN.{pos}
 use lib.ListN.{length, get_or}
 use Rattle.axis.specs.declared.Limits.{Limits}
 use Rattle.axis.specs.Codes.{first}
-use Rattle.ray.specs.declared.Grid.{Grid}
+use Rattle.ray.specs.Axes.{Grid}
 use Rattle.ray.specs.declared.Ray.{Ray}
 use Rattle.ray.specs.Length.{Volume, volume, d_of, array, start, stop, part_of, misses, span_of, list_of, sum_of, crossed_of}
 use Rattle.ray.specs.Codes.{grid_rows, end_rows}
@@ -19,7 +19,7 @@ use Rattle.ray.proofs.Weighted.{sum_list_lem}
 use Rattle.ray.proofs.Capped.{stop_cap}
 use Rattle.ray.proofs.Different.{different_of}
 use Rattle.ray.proofs.Moved.{Moved, d_moved, part_moved, misses_moved, span_moved, list_moved, sum_moved, crossed_moved, different_moved}
-use Rattle.line.specs.declared.scene.Scene.{Scene}
+use Rattle.line.specs.Scene.{Scene}
 use Rattle.line.specs.Scene.{volume_of, ray_of, Able}
 use Rattle.line.specs.Raised.{Small, scene_of}
 use Rattle.line.proofs.Raised.{able, moved, d_most}

@@ -10,10 +10,11 @@ use native.Mathlib.Nat.{zero-mul, mul-zero}
 use lib.ListN.{length, take}
 use Rattle.axis.specs.Leg.{moving}
 use Rattle.axis.specs.declared.Limits.{Limits}
-use Rattle.ray.specs.declared.Grid.{Grid}
-use Rattle.ray.specs.declared.End.{End}
+use Rattle.ray.specs.Axes.{Grid}
+use Rattle.ray.specs.Axes.{End}
 use Rattle.ray.specs.declared.Ray.{Ray}
-use Rattle.ray.specs.Length.{Side, leg, volume, count, part_of, list_of}
+use Rattle.ray.specs.declared.axes.Side.{Side}
+use Rattle.ray.specs.Length.{leg, volume, count, part_of, list_of}
 use Rattle.ray.proofs.CutBox.{Between, near, far}
 use Rattle.ray.proofs.Cut.{difference, MeanOf}
 use Rattle.ray.proofs.Ends.{ends_near, ends_far}

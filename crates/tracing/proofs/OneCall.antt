@@ -12,7 +12,7 @@ use lib.Seq.{length-take-le, take_at, drop_at, take-append_seam, drop-append_sea
 use borrow.Author.Tests.{eq-eqb, ne_eqb}
 use Rattle.axis.specs.declared.Limits.{Limits}
 use Rattle.axis.specs.Codes.{first}
-use Rattle.ray.specs.declared.Grid.{Grid}
+use Rattle.ray.specs.Axes.{Grid}
 use Rattle.ray.specs.declared.Ray.{Ray}
 use Rattle.ray.specs.Length.{volume, voxel, d_of, part_of, list_of, sum_of, crossed_of}
 use Rattle.ray.specs.Codes.{end_rows, trace_rows}

@@ -6,7 +6,7 @@ use mathlib.Core.List.{List, reverse}
 use native.Mathlib.Omega.{arith}
 use lib.ListN.{length, take, length-reverse}
 use Rattle.axis.specs.declared.Limits.{Limits}
-use Rattle.ray.specs.declared.Grid.{Grid}
+use Rattle.ray.specs.Axes.{Grid}
 use Rattle.ray.specs.declared.Ray.{Ray}
 use Rattle.ray.specs.Length.{volume, list_of}
 use Rattle.ray.proofs.Turned.{turned}

@@ -1,8 +1,10 @@
 -- What tracing's inner functions say to each other. A reader of the promises needs none of it. Definitions only. Assumes nothing.
-use Rattle.std.specs.Prelude.{ℕ, ◌+◌, ◌^◌, ◌≤◌, ◌≡◌, Bool, cond, List}
+use Rattle.std.specs.Prelude.{ℕ, ◌+◌, ◌^◌, ◌≤◌, ◌≡◌, Bool, cond, List, Result, Ok, Err}
 use Rattle.axis.specs.declared.Limits.{Limits}
+use Rattle.axis.specs.declared.refusal.Refusal.{Refusal}
+use Rattle.axis.specs.Refusal.{number}
 use Rattle.axis.specs.Codes.{first}
-use Rattle.ray.specs.declared.Grid.{Grid}
+use Rattle.ray.specs.Axes.{Grid}
 use Rattle.ray.specs.declared.Ray.{Ray}
 use Rattle.ray.specs.declared.Lent.{Lent}
 use Rattle.ray.specs.Length.{volume, count}
@@ -22,6 +24,11 @@ pub record Accepted (m : Limits) (g : Grid) (r : Ray) (l : Lent) : Type 0 where
   pub ends : first (end_rows m r) ≡ 0
   pub densities_are : l.densities ≡ count (volume g)
   pub lists_are : l.voxels ≡ l.parts
+
+-- a refusal told as a trace
+abbrev pub trace_of : Result Trace Refusal → Trace
+trace_of (Ok t) = t
+trace_of (Err r) = refused (number r)
 
 -- an answer where the call may write, and else the code alone and both lists as they were
 pub record AnswersWhen (ready : Bool) (m : Limits) (g : Grid) (r : Ray) (l : Lists) (a : Trace) (voxels parts : List ℕ) : Type 0 where

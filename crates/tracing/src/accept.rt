@@ -1,42 +1,34 @@
-// The codes that are known before the ray is traced: 1 to 7.
+// What is refused before the ray is traced: codes 1 to 7.
 ghost use Rattle.std.specs.Prelude.{◌≡◌, ◌^◌, ◌≤◌};
 ghost use Rattle.axis.specs.Codes.{first};
+ghost use Rattle.axis.specs.Refusal.{number_of};
 ghost use Rattle.ray.specs.Codes.{front_rows};
 ghost use Rattle.ray.specs.Length.{volume, count};
 ghost use Rattle.line.specs.Raised.{Small};
 
 use axis::Limits;
-use ray::check::{ends_code, grid_code};
-use ray::{Grid, Lent, Ray};
+use axis::refusal::Refusal;
+use ray::{Grid, Lent, Ray, check};
 
 fn voxels_of(g: Grid) -> usize
     requires { (g.x.n ≤ 2 ^ 9) × (g.y.n ≤ 2 ^ 9) × (g.z.n ≤ 2 ^ 9) }
     ensures { result ≡ count (volume g) }
 {
-    let x = g.x;
-    let y = g.y;
-    let z = g.z;
-    (x.n as usize) * (y.n as usize) * (z.n as usize)
+    (g.x.n as usize) * (g.y.n as usize) * (g.z.n as usize)
 }
 
-// The code, but for 8, which is left where this is 0.
-pub fn front_code(m: Limits, g: Grid, r: Ray, lent: Lent) -> u32
+// Whether a trace is accepted, but for code 8, which is left where it is.
+pub fn front(m: Limits, g: Grid, r: Ray, lent: Lent) -> Result<(), Refusal>
     requires { Small m }
-    ensures { result ≡ first (front_rows m g r lent) }
+    ensures { number_of result ≡ first (front_rows m g r lent) }
 {
-    let grid = grid_code(m, g);
-    if grid != 0 {
-        return grid;
-    }
+    check::grid(m, g)?;
     if lent.densities != voxels_of(g) {
-        return 4;
+        return Err(Refusal::Densities);
     }
-    let ends = ends_code(m, r);
-    if ends != 0 {
-        return ends;
-    }
+    check::ends(m, r)?;
     if lent.voxels != lent.parts {
-        return 7;
+        return Err(Refusal::Lists);
     }
-    0
+    Ok(())
 }

@@ -3,11 +3,12 @@
 use Rattle.std.proofs.Common.{◌≡◌, ℕ, ◌+◌, ◌<◌, ◌≤◌, Bool, true, false, length, sym, refl, ◌∙◌, arith}
 use native.Mathlib.Decide.{dec_lt}
 use Rattle.axis.specs.Leg.{moving}
-use Rattle.ray.specs.Length.{Side, rest, d_of}
+use Rattle.ray.specs.declared.axes.Side.{Side}
+use Rattle.ray.specs.Length.{rest, d_of}
 use Rattle.ray.proofs.Different.{alpha_of, crossed_at, crosses_means, means_crosses, crossed_yes, crossed_no, crossed_until}
 use Rattle.ray.proofs.After.{after, none_after, one_after}
 use Rattle.line.specs.declared.line.Line.{Line}
-use Rattle.line.specs.declared.scene.Scene.{Scene}
+use Rattle.line.specs.Scene.{Scene}
 use Rattle.line.specs.Scene.{leg_n, line, Able}
 use Rattle.line.specs.Reach.{meets_at}
 use Rattle.line.specs.Beyond.{beyond}

@@ -7,7 +7,7 @@ use Rattle.ray.specs.Length.{Volume, count, d_of, squared_of, misses, span_of, p
 use Rattle.ray.proofs.Total.{sum_list}
 use Rattle.ray.proofs.Listing.{list_sound}
 use Rattle.ray.proofs.Weighted.{sum_list_lem}
-use Rattle.line.specs.declared.scene.Scene.{Scene}
+use Rattle.line.specs.Scene.{Scene}
 use Rattle.line.specs.Scene.{volume_of, ray_of, Able}
 use Rattle.walk.specs.declared.plan.Frame.{Frame}
 use Rattle.walk.specs.declared.plan.Plan.{Plan}

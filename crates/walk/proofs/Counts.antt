@@ -4,7 +4,8 @@ use Rattle.std.proofs.Common.{◌≡◌, ℕ, ◌+◌, ◌≤◌, Bool, true, fa
 use mathlib.Core.List.{sum, Memᴰ}
 use lib.ListN.{length-map}
 use Rattle.axis.proofs.Flag.{off_or_on}
-use Rattle.ray.specs.Length.{X, Y, Z, Volume, d_of, array, stop, part_of, misses, span_of, list_of, sum_of, crossed_of}
+use Rattle.ray.specs.declared.axes.Side.TheVariants.{X, Y, Z}
+use Rattle.ray.specs.Length.{Volume, d_of, array, stop, part_of, misses, span_of, list_of, sum_of, crossed_of}
 use Rattle.ray.specs.declared.Ray.{Ray}
 use Rattle.ray.proofs.Total.{sum_list}
 use Rattle.ray.proofs.Listing.{list_sound}
@@ -12,7 +13,7 @@ use Rattle.ray.proofs.Weighted.{sum_list_lem}
 use Rattle.ray.proofs.Different.{crossed_at, different_of, crossed_since}
 use Rattle.ray.proofs.FewAlphas.{different_few}
 use Rattle.ray.proofs.After.{all_after}
-use Rattle.line.specs.declared.scene.Scene.{Scene}
+use Rattle.line.specs.Scene.{Scene}
 use Rattle.line.specs.Scene.{volume_of, ray_of, Able}
 use Rattle.walk.specs.Model.{Entry, entries}
 use Rattle.walk.proofs.Found.{found_list, found_parts, found_total}

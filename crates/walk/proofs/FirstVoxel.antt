@@ -2,12 +2,13 @@
 -- after it, or to αmax where none lies between. Assumes nothing.
 use Rattle.std.proofs.Common.{◌≡◌, ℕ, ◌+◌, ◌-◌, ◌*◌, ◌/◌, ◌<◌, ◌≤◌, min, true, pos, sym, ◌∙◌, ap₂, mul_comm, arith}
 use Rattle.axis.specs.Leg.{Leg, factor}
-use Rattle.ray.specs.Length.{Side, leg, d_of, rest, array}
+use Rattle.ray.specs.declared.axes.Side.{Side}
+use Rattle.ray.specs.Length.{leg, d_of, rest, array}
 use Rattle.ray.proofs.Capped.{d_side}
 use Rattle.ray.proofs.Fraction.{Fraction, Is}
 use Rattle.ray.proofs.Formula.{αmin, αmin_is, αmid, equation12}
 use Rattle.line.specs.declared.line.Line.{Line}
-use Rattle.line.specs.declared.scene.Scene.{Scene}
+use Rattle.line.specs.Scene.{Scene}
 use Rattle.line.specs.Scene.{leg_n, line, volume_of, ray_of, Able, leaves_at}
 use Rattle.line.specs.Quotient.{spot_of}
 use Rattle.line.proofs.Three.{least_le}

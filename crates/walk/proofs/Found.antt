@@ -3,11 +3,13 @@
 use Rattle.std.proofs.Common.{◌≡◌, ℕ, zero, suc, ◌+◌, ◌-◌, ◌<◌, ◌≤◌, List, [], ◌∷◌, ◌++◌, map, sym, refl, ◌∙◌, subst, append_assoc, arith}
 use mathlib.Core.List.{sum}
 use native.Mathlib.Decide.{dec_le}
-use Rattle.ray.specs.Length.{Side, X, Y, Z, rest, count, part_of, list_of}
+use Rattle.ray.specs.declared.axes.Side.{Side}
+use Rattle.ray.specs.declared.axes.Side.TheVariants.{X, Y, Z}
+use Rattle.ray.specs.Length.{rest, count, part_of, list_of}
 use Rattle.ray.proofs.Apart.{starts_apart}
 use Rattle.ray.proofs.Total.{sum_list}
 use Rattle.ray.proofs.Listing.{Listed, SoFar, starts, one_more, none_yet, all_found, list_is}
-use Rattle.line.specs.declared.scene.Scene.{Scene}
+use Rattle.line.specs.Scene.{Scene}
 use Rattle.line.specs.Scene.{line, Able, Within}
 use Rattle.line.specs.Reach.{crossed_on}
 use Rattle.line.proofs.Three.{least_le}

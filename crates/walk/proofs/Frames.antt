@@ -1,8 +1,10 @@
 -- The frame of a scene from what its axes say. Assumes nothing.
 use Rattle.std.proofs.Common.{◌≡◌, min, Bool, true, false, not, ◌&&◌, ◌||◌, ltb, leb, refl, ◌∙◌}
 use Rattle.axis.proofs.Flag.{lt_not_le}
-use Rattle.ray.specs.Length.{Side, X, Y, Z, rest, d_of, array, holds, misses}
-use Rattle.line.specs.declared.scene.Scene.{Scene}
+use Rattle.ray.specs.declared.axes.Side.{Side}
+use Rattle.ray.specs.declared.axes.Side.TheVariants.{X, Y, Z}
+use Rattle.ray.specs.Length.{rest, d_of, array, holds, misses}
+use Rattle.line.specs.Scene.{Scene}
 use Rattle.line.specs.declared.reach.Reach.{Reach}
 use Rattle.line.specs.Scene.{line, volume_of, ray_of}
 use Rattle.line.specs.Reach.{Reached}

@@ -2,7 +2,9 @@
 -- is lost. Assumes nothing.
 use Rattle.std.proofs.Common.{◌≡◌, ℕ, zero, suc, ◌+◌, ◌-◌, ◌*◌, ◌/◌, ◌%◌, ◌^◌, ◌<◌, ◌≤◌, Bool, true, false, cond, sym, refl, ap, ◌∙◌, mod-eq_of_lt, mul_assoc, suc-mul, add-mul, mul-le-mul, one-mul, zero-add, arith}
 use native.Mathlib.Nat.{div-eq_of_lt, add-mul-mod_self_left, add-mul-div_left}
-use Rattle.ray.specs.Length.{Side, X, Y, Z, Volume}
+use Rattle.ray.specs.declared.axes.Side.{Side}
+use Rattle.ray.specs.declared.axes.Side.TheVariants.{X, Y, Z}
+use Rattle.ray.specs.Length.{Volume}
 use Rattle.line.proofs.Three.{each}
 use Rattle.line.proofs.Stretch.{onward, Left}
 use Rattle.walk.specs.Plan.{unit}

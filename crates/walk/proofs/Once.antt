@@ -2,8 +2,9 @@
 -- the functions below the one call. Assumes nothing.
 use Rattle.std.proofs.Common.{◌≡◌, ℕ, List, length}
 use Rattle.axis.proofs.Once.{once}
-use Rattle.ray.specs.Length.{Side, X, Y, Z}
-use Rattle.line.specs.declared.scene.Scene.{Scene}
+use Rattle.ray.specs.declared.axes.Side.{Side}
+use Rattle.ray.specs.declared.axes.Side.TheVariants.{X, Y, Z}
+use Rattle.line.specs.Scene.{Scene}
 use Rattle.line.specs.Scene.{line, volume_of, Able}
 use Rattle.line.proofs.Once.{jump_once, index_once}
 use Rattle.walk.specs.declared.steps.Walk.{Walk}
@@ -23,9 +24,7 @@ fill_once densities es voxels parts t t' vs vs' ps ps' x f y g = (once x y, (onc
 
 pub frame_once : (s : Scene) (f f' : Frame) → Framed s f → Framed s f' → f ≡ f'
 frame_once s f f' x y = λ i. record {
-  cx = once (x.rests X) (y.rests X) i;
-  cy = once (x.rests Y) (y.rests Y) i;
-  cz = once (x.rests Z) (y.rests Z) i;
+  rest = record { x = once (x.rests X) (y.rests X) i; y = once (x.rests Y) (y.rests Y) i; z = once (x.rests Z) (y.rests Z) i };
   denominator = once x.denominator_is y.denominator_is i;
   from = once x.from_is y.from_is i;
   to = once x.to_is y.to_is i;
@@ -36,12 +35,8 @@ strides_once : (s : Scene) (f : Frame) (t t' : Strides) → Strided s f t → St
 strides_once s f t t' x y =
     let jump : (o : Side) → jump_of t o ≡ jump_of t' o = λ o. jump_once (line s o).p (line s o).q (unit (volume_of s) o) (jump_of t o) (jump_of t' o) (x.upward o, x.downward o) (y.upward o, y.downward o) in
     λ i. record {
-      dx = once (x.ticks X) (y.ticks X) i;
-      dy = once (x.ticks Y) (y.ticks Y) i;
-      dz = once (x.ticks Z) (y.ticks Z) i;
-      vx = jump X i;
-      vy = jump Y i;
-      vz = jump Z i;
+      step = record { x = once (x.ticks X) (y.ticks X) i; y = once (x.ticks Y) (y.ticks Y) i; z = once (x.ticks Z) (y.ticks Z) i };
+      jump = record { x = jump X i; y = jump Y i; z = jump Z i };
     }
 
 module _ (s : Scene) (able : Able s) (f : Frame) where
@@ -50,9 +45,7 @@ module _ (s : Scene) (able : Able s) (f : Frame) where
       let at : (o : Side) → x.at o ≡ y.at o = λ o. index_once (line s o) (rest_of f o) f.from (x.at o) (y.at o) (able.sized o) (x.within o) (y.within o) in
       let leave : (o : Side) → leave_of w o ≡ leave_of w' o = λ o. once (rw (at o) at (x.leaves_at_lem o)) (y.leaves_at_lem o) in
       λ i. record {
-        x = leave X i;
-        y = leave Y i;
-        z = leave Z i;
+        leave = record { x = leave X i; y = leave Y i; z = leave Z i };
         v = once (rw (at X, at Y, at Z) at x.number) y.number i;
         t = once x.tick y.tick i;
       }

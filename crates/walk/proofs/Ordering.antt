@@ -1,15 +1,17 @@
 -- The entries of a walk do not hang on the order of its axes. Assumes nothing.
 use Rattle.std.proofs.Common.{◌≡◌, ℕ, zero, suc, ◌+◌, ◌-◌, ◌%◌, ◌^◌, Bool, true, false, cond, eqb, ltb, sym, refl, ap, ◌∙◌, arith}
 use native.Mathlib.Nat.{mod-add-mod}
-use Rattle.ray.specs.Length.{Side, X, Y, Z}
-use Rattle.line.specs.declared.scene.Scene.{Scene}
+use Rattle.ray.specs.declared.axes.Side.{Side}
+use Rattle.ray.specs.declared.axes.Side.TheVariants.{X, Y, Z}
+use Rattle.ray.specs.declared.axes.Axes.{Axes}
+use Rattle.ray.specs.Side.{of_side}
+use Rattle.line.specs.Scene.{Scene}
 use Rattle.line.proofs.Three.{each}
 use Rattle.walk.specs.declared.steps.Walk.{Walk}
 use Rattle.walk.specs.declared.steps.Strides.{Strides}
 use Rattle.walk.specs.declared.plan.Plan.{Plan}
 use Rattle.walk.specs.declared.order.Track.{Track}
-use Rattle.walk.specs.declared.order.Pair.{Pair}
-use Rattle.walk.specs.Model.{leave_of, step_of, jump_of, soonest, further, hop, stepped, voxels, parts, go, entries, planes_by, Forward}
+use Rattle.walk.specs.Model.{soonest, further, hop, stepped, voxels, parts, go, entries, planes_by, Forward}
 use Rattle.walk.specs.Plan.{Planned}
 use Rattle.walk.specs.Order.{plan_by, exchange_of, ordered_by, ordered_of}
 
@@ -26,18 +28,14 @@ turn last_two X = X
 turn last_two Y = Z
 turn last_two Z = Y
 
+abbrev turned : {A : Type 0} → Flip → Axes A → Axes A
+turned c a = record { x = of_side a (turn c X); y = of_side a (turn c Y); z = of_side a (turn c Z) }
+
 abbrev flipped : Flip → Walk → Walk
-flipped c w = record { x = leave_of w (turn c X); y = leave_of w (turn c Y); z = leave_of w (turn c Z); v = w.v; t = w.t }
+flipped c w = record { leave = turned c w.leave; v = w.v; t = w.t }
 
 abbrev strided : Flip → Strides → Strides
-strided c s = record {
-  dx = step_of s (turn c X);
-  dy = step_of s (turn c Y);
-  dz = step_of s (turn c Z);
-  vx = jump_of s (turn c X);
-  vy = jump_of s (turn c Y);
-  vz = jump_of s (turn c Z);
-}
+strided c s = record { step = turned c s.step; jump = turned c s.jump }
 
 flip_soonest : (c : Flip) (w : Walk) → soonest (flipped c w) ≡ soonest w
 flip_soonest first_two w = omega arith
@@ -58,19 +56,15 @@ module _ (s : Strides) where
   flip_step first_two w =
       let u : ℕ = soonest w in
       rw (flip_soonest first_two w) (λ i. record {
-        x = further s w u Y;
-        y = further s w u X;
-        z = further s w u Z;
-        v = hop s w u Z (hop_swap (eqb w.x u) (eqb w.y u) s.vx s.vy w.v (2 ^ 64) i);
+        leave = record { x = further s w u Y; y = further s w u X; z = further s w u Z };
+        v = hop s w u Z (hop_swap (eqb w.leave.x u) (eqb w.leave.y u) s.jump.x s.jump.y w.v (2 ^ 64) i);
         t = u;
       })
   flip_step last_two w =
       let u : ℕ = soonest w in
       rw (flip_soonest last_two w) (λ i. record {
-        x = further s w u X;
-        y = further s w u Z;
-        z = further s w u Y;
-        v = hop_swap (eqb w.y u) (eqb w.z u) s.vy s.vz (hop s w u X w.v) (2 ^ 64) i;
+        leave = record { x = further s w u X; y = further s w u Z; z = further s w u Y };
+        v = hop_swap (eqb w.leave.y u) (eqb w.leave.z u) s.jump.y s.jump.z (hop s w u X w.v) (2 ^ 64) i;
         t = u;
       })
 
@@ -108,20 +102,20 @@ flip c p = record {
 }
 
 module _ (v t : ℕ) where
-  in_front : (b : Bool) (x y z : Track) → let e : Pair = cond b (record { first = y; second = x }) (record { first = x; second = y }) in Alike (plan_by x y z v t) (plan_by e.first e.second z v t)
+  in_front : (b : Bool) (x y z : Track) → let e : Track × Track = cond b (y, x) (x, y) in Alike (plan_by x y z v t) (plan_by e.0 e.1 z v t)
   in_front true x y z = flip first_two (plan_by x y z v t)
   in_front false x y z = none (plan_by x y z v t)
 
-  behind : (b : Bool) (x y z : Track) → let e : Pair = cond b (record { first = z; second = y }) (record { first = y; second = z }) in Alike (plan_by x y z v t) (plan_by x e.first e.second v t)
+  behind : (b : Bool) (x y z : Track) → let e : Track × Track = cond b (z, y) (y, z) in Alike (plan_by x y z v t) (plan_by x e.0 e.1 v t)
   behind true x y z = flip last_two (plan_by x y z v t)
   behind false x y z = none (plan_by x y z v t)
 
   all_three : (x y z : Track) → Alike (plan_by x y z v t) (ordered_by x y z v t)
   all_three x y z =
-      let near : Pair = exchange_of x y in
-      let far : Pair = exchange_of near.second z in
-      both (both (in_front (ltb y.step x.step) x y z) (behind (ltb z.step near.second.step) near.first near.second z))
-      (in_front (ltb far.first.step near.first.step) near.first far.first far.second)
+      let near : Track × Track = exchange_of x y in
+      let far : Track × Track = exchange_of near.1 z in
+      both (both (in_front (ltb y.step x.step) x y z) (behind (ltb z.step near.1.step) near.0 near.1 z))
+      (in_front (ltb far.0.step near.0.step) near.0 far.0 far.1)
 
 pub ordered_plan : {s : Scene} {to : ℕ} {p q : Plan} → q ≡ ordered_of p → Planned s to p → Planned s to q
 ordered_plan {to = to} {p = p} e planned =
@@ -134,19 +128,14 @@ ordered_plan {to = to} {p = p} e planned =
     })
 
 -- ---- what the code makes, field by field
-chosen : (turned : Bool) (a b : Track) {l s j l' s' j' : ℕ} → l ≡ cond turned b.leave a.leave → s ≡ cond turned b.step a.step → j ≡ cond turned b.jump a.jump
-    → l' ≡ cond turned a.leave b.leave → s' ≡ cond turned a.step b.step → j' ≡ cond turned a.jump b.jump
-    → ◌≡◌ {A = Pair} (record { first = record { leave = l; step = s; jump = j }; second = record { leave = l'; step = s'; jump = j' } })
-    (cond turned (record { first = b; second = a }) (record { first = a; second = b }))
-chosen true a b el es ej el' es' ej' = λ i. record { first = record { leave = el i; step = es i; jump = ej i }; second = record { leave = el' i; step = es' i; jump = ej' i } }
-chosen false a b el es ej el' es' ej' = λ i. record { first = record { leave = el i; step = es i; jump = ej i }; second = record { leave = el' i; step = es' i; jump = ej' i } }
+chosen : (t : Bool) (a b : Track) → ◌≡◌ {A = Track × Track}
+    (record { leave = cond t b.leave a.leave; step = cond t b.step a.step; jump = cond t b.jump a.jump }, record { leave = cond t a.leave b.leave; step = cond t a.step b.step; jump = cond t a.jump b.jump })
+    (cond t (b, a) (a, b))
+chosen true a b = refl
+chosen false a b = refl
 
 pub exchanged : (a b : Track) {l s j l' s' j' : ℕ} → let turned : Bool = ltb b.step a.step in
     l ≡ cond turned b.leave a.leave → s ≡ cond turned b.step a.step → j ≡ cond turned b.jump a.jump
     → l' ≡ cond turned a.leave b.leave → s' ≡ cond turned a.step b.step → j' ≡ cond turned a.jump b.jump
-    → ◌≡◌ {A = Pair} (record { first = record { leave = l; step = s; jump = j }; second = record { leave = l'; step = s'; jump = j' } }) (exchange_of a b)
-exchanged a b = chosen (ltb b.step a.step) a b
-
-pub in_order : (x y z : Track) (v t : ℕ) {near far front : Pair} → near ≡ exchange_of x y → far ≡ exchange_of near.second z → front ≡ exchange_of near.first far.first
-    → plan_by front.first front.second far.second v t ≡ ordered_by x y z v t
-in_order x y z v t e k h = rw (h, k, e) refl
+    → ◌≡◌ {A = Track × Track} (record { leave = l; step = s; jump = j }, record { leave = l'; step = s'; jump = j' }) (exchange_of a b)
+exchanged a b el es ej el' es' ej' = rw (el, es, ej, el', es', ej') (chosen (ltb b.step a.step) a b)

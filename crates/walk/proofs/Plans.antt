@@ -3,12 +3,14 @@ use Rattle.std.proofs.Common.{◌≡◌, ℕ, ◌+◌, ◌*◌, ◌^◌, ◌<◌
 use borrow.Author.Tests.{not-true, not-false}
 use Rattle.axis.specs.Leg.{factor}
 use Rattle.axis.proofs.Flag.{or_left, or_right}
-use Rattle.ray.specs.Length.{Side, X, Y, Z, leg, rest, d_of, array, holds, misses, part_of, crosses, crossed_of}
+use Rattle.ray.specs.declared.axes.Side.{Side}
+use Rattle.ray.specs.declared.axes.Side.TheVariants.{X, Y, Z}
+use Rattle.ray.specs.Length.{leg, rest, d_of, array, holds, misses, part_of, crosses, crossed_of}
 use Rattle.ray.proofs.Capped.{rest_pos}
 use Rattle.ray.proofs.Tests.{all_of}
 use Rattle.ray.proofs.Way.{Way, up, down, still, Goes}
 use Rattle.line.specs.declared.line.Line.{Line}
-use Rattle.line.specs.declared.scene.Scene.{Scene}
+use Rattle.line.specs.Scene.{Scene}
 use Rattle.line.specs.Scene.{line, volume_of, ray_of, Sized, Able, leaves_at, held_at, Window, Within}
 use Rattle.line.specs.Reach.{left_at}
 use Rattle.line.specs.Beyond.{Stretch}
@@ -22,9 +24,10 @@ use Rattle.line.proofs.Scenes.{way, leg_is, leave, from_of, to_of, enter_in, ent
 use Rattle.walk.specs.declared.steps.Walk.{Walk}
 use Rattle.walk.specs.declared.steps.Strides.{Strides}
 use Rattle.walk.specs.declared.plan.Frame.{Frame}
-use Rattle.walk.specs.declared.plan.Ahead.{Ahead}
+use Rattle.ray.specs.declared.axes.Axes.{Axes}
+use Rattle.ray.specs.Side.{of_side}
 use Rattle.walk.specs.Model.{jump_of, Forward}
-use Rattle.walk.specs.Plan.{rest_of, Framed, unit, Strided, plane_of, Facing, Begun, Planned}
+use Rattle.walk.specs.Plan.{rest_of, Framed, unit, Strided, Facing, Begun, Planned}
 use Rattle.walk.proofs.Hops.{Jump, unit_small}
 use Rattle.walk.proofs.Walking.{Paced, Inside, onward_none, Walking, under_least, cut_le, soon_later}
 use Rattle.walk.proofs.Found.{crossed_by, found_list, found_parts, found_planes}
@@ -87,13 +90,13 @@ module _ {s : Scene} (able : Able s) where
       pub at_first_lem : (o : Side) → Sized (line s o) × (rest_of f o ≤ 2 ^ 40) × Window (line s o) (rest_of f o) f.from
       at_first_lem o = (able.sized o, few o, windows o f.from (omega arith) proper)
 
-      module _ {a : Ahead} (facing : Facing s f a) where
+      module _ {a : Axes ℕ} (facing : Facing s f a) where
         -- what `leave_tick` asks of the plane ahead
-        pub at_plane : (o : Side) → Sized (line s o) × (rest_of f o ≤ 2 ^ 40) × (plane_of a o ≤ (line s o).n)
+        pub at_plane : (o : Side) → Sized (line s o) × (rest_of f o ≤ 2 ^ 40) × (of_side a o ≤ (line s o).n)
         at_plane o = (able.sized o, few o, (facing.first o).few)
 
         -- the plane ahead is the one by which the first voxel is left
-        module _ (left : Side → ℕ) (met : (o : Side) → left o ≡ left_at (line s o) (rest_of f o) (plane_of a o)) where
+        module _ (left : Side → ℕ) (met : (o : Side) → left o ≡ left_at (line s o) (rest_of f o) (of_side a o)) where
           pub left_is : (o : Side) {i : ℕ} → Within (line s o) (rest_of f o) f.from i → left o ≡ leaves_at (line s o) (rest_of f o) i (i + 1)
           left_is o {i} v = met o ∙ ap (left_at (line s o) (rest_of f o)) ((facing.first o).ahead i v) ∙ leave_beyond (line s o) (rest_of f o) i
 

@@ -2,8 +2,10 @@
 -- ray's definitions, with no walk in the statement; and on its way the ray crosses fewer planes of an axis than there are voxels.
 -- Assumes nothing.
 use Rattle.std.proofs.Common.{◌≡◌, ℕ, ◌+◌, ◌-◌, ◌*◌, ◌^◌, ◌<◌, ◌≤◌, true, false, cond, not, ltb, refl, ap, ◌∙◌, arith, le-ltb, lt-ltb}
-use Rattle.ray.specs.Length.{Side, X, Y, Z, rest, d_of, misses, crossed_of}
-use Rattle.line.specs.declared.scene.Scene.{Scene}
+use Rattle.ray.specs.declared.axes.Side.{Side}
+use Rattle.ray.specs.declared.axes.Side.TheVariants.{X, Y, Z}
+use Rattle.ray.specs.Length.{rest, d_of, misses, crossed_of}
+use Rattle.line.specs.Scene.{Scene}
 use Rattle.line.specs.Scene.{line, volume_of, ray_of, Able, leaves_at, Within}
 use Rattle.line.specs.Reach.{crossed_on}
 use Rattle.line.proofs.Three.{each}
@@ -32,9 +34,7 @@ pub record SetOut (s : Scene) : Type 0 where
 -- the definitions themselves make a frame
 abbrev frame : Scene → Frame
 frame s = record {
-  cx = rest (ray_of s) X;
-  cy = rest (ray_of s) Y;
-  cz = rest (ray_of s) Z;
+  rest = record { x = rest (ray_of s) X; y = rest (ray_of s) Y; z = rest (ray_of s) Z };
   denominator = d_of (ray_of s);
   from = from_of s;
   to = to_of s;
@@ -51,12 +51,8 @@ jump s o = cond (ltb (line s o).p (line s o).q) (2 ^ 32 + unit (volume_of s) o) 
 module _ {s : Scene} (able : Able s) where
   abbrev strides : Strides
   strides = record {
-    dx = s.x.d * (frame s).cx;
-    dy = s.y.d * (frame s).cy;
-    dz = s.z.d * (frame s).cz;
-    vx = jump s X;
-    vy = jump s Y;
-    vz = jump s Z;
+    step = record { x = s.x.d * (frame s).rest.x; y = s.y.d * (frame s).rest.y; z = s.z.d * (frame s).rest.z };
+    jump = record { x = jump s X; y = jump s Y; z = jump s Z };
   }
 
   on_up : (o : Side) → (line s o).p < (line s o).q → jump s o ≡ 2 ^ 32 + unit (volume_of s) o
@@ -91,7 +87,7 @@ module _ {s : Scene} (able : Able s) where
     leave_few : (o : Side) → leave o ≤ 2 ^ 60
     leave_few o = leave_ticks (line s o) (able.sized o) (omega arith) (omega (arith, (first_within o).inside)) (few able (framed s) o)
 
-    first : Begun s (frame s) (record { x = leave X; y = leave Y; z = leave Z; v = (at Z * s.y.n + at Y) * s.x.n + at X; t = (frame s).from })
+    first : Begun s (frame s) (record { leave = record { x = leave X; y = leave Y; z = leave Z }; v = (at Z * s.y.n + at Y) * s.x.n + at X; t = (frame s).from })
     first = record {
       at = at;
       within = first_within;

@@ -2,7 +2,8 @@
 use Rattle.std.proofs.Common.{◌≡◌, ℕ, zero, suc, ◌+◌, ◌-◌, ◌%◌, ◌^◌, ◌<◌, ◌≤◌, Bool, true, false, cond, eqb, List, [], ◌∷◌, length, refl, ap, ◌∙◌, arith, eq-eqb, ne_eqb, le-leb}
 use native.Mathlib.Decide.{dec_le, ℕ_discrete}
 use borrow.Author.Tests.{lt-leb}
-use Rattle.ray.specs.Length.{Side, X, Y, Z}
+use Rattle.ray.specs.declared.axes.Side.{Side}
+use Rattle.ray.specs.declared.axes.Side.TheVariants.{X, Y, Z}
 use Rattle.line.proofs.Three.{each, least_le, lt_least}
 use Rattle.walk.specs.declared.steps.Walk.{Walk}
 use Rattle.walk.specs.declared.steps.Strides.{Strides}
@@ -18,16 +19,14 @@ at_is true leave u h = eq-eqb leave u h
 at_is false leave u h = ne_eqb leave u (omega arith)
 
 -- the turn, once it is known which axes are left at u
-pub step_is_lem : (s : Strides) (w : Walk) (u : ℕ) (bx by bz : Bool) → soonest w ≡ u → At bx w.x u → At by w.y u → At bz w.z u
+pub step_is_lem : (s : Strides) (w : Walk) (u : ℕ) (bx by bz : Bool) → soonest w ≡ u → At bx w.leave.x u → At by w.leave.y u → At bz w.leave.z u
     → ◌≡◌ {A = Walk} (record {
-      x = cond bx (next s w X) w.x;
-      y = cond by (next s w Y) w.y;
-      z = cond bz (next s w Z) w.z;
-      v = let vx : ℕ = cond bx ((w.v + s.vx) % 2 ^ 64) w.v in let vy : ℕ = cond by ((vx + s.vy) % 2 ^ 64) vx in cond bz ((vy + s.vz) % 2 ^ 64) vy;
+      leave = record { x = cond bx (next s w X) w.leave.x; y = cond by (next s w Y) w.leave.y; z = cond bz (next s w Z) w.leave.z };
+      v = let vx : ℕ = cond bx ((w.v + s.jump.x) % 2 ^ 64) w.v in let vy : ℕ = cond by ((vx + s.jump.y) % 2 ^ 64) vx in cond bz ((vy + s.jump.z) % 2 ^ 64) vy;
       t = u;
     }) (stepped s w)
 unfolding stepped
-step_is_lem s w u bx by bz e ex ey ez = rw (e, at_is bx w.x u ex, at_is by w.y u ey, at_is bz w.z u ez) refl
+step_is_lem s w u bx by bz e ex ey ez = rw (e, at_is bx w.leave.x u ex, at_is by w.leave.y u ey, at_is bz w.leave.z u ez) refl
 
 pub step_tick : (s : Strides) (w : Walk) → (stepped s w).t ≡ soonest w
 unfolding stepped
@@ -67,7 +66,7 @@ module _ {s : Strides} {to : ℕ} {w : Walk} (f : Forward s to w) where
   fits : (o : Side) → next s w o < 2 ^ 64
   fits o = omega (arith, f.leaves_size o, f.steps_size o)
 
-  pub step_fits : (w.x + s.dx < 2 ^ 64) × (w.y + s.dy < 2 ^ 64) × (w.z + s.dz < 2 ^ 64)
+  pub step_fits : (next s w X < 2 ^ 64) × (next s w Y < 2 ^ 64) × (next s w Z < 2 ^ 64)
   step_fits = (fits X, fits Y, fits Z)
 
 module _ (s : Strides) (to : ℕ) where

@@ -2,10 +2,12 @@
 -- tick later than now, and on one axis since now; and the planes from its first voxel are counted. Assumes nothing.
 use Rattle.std.proofs.Common.{◌≡◌, ℕ, ◌+◌, ◌-◌, ◌/◌, ◌%◌, ◌^◌, ◌<◌, ◌≤◌, min, Bool, true, false, cond, eqb, sym, refl, ap, ◌∙◌, subst, le_trans, le_of_eq, lt_of_lt_of_le, lt_of_le_of_lt, le_antisymm, arith, eq-eqb, eqb-true}
 use borrow.Author.Tests.{lt-leb, eqb-false}
-use Rattle.ray.specs.Length.{Side, X, Y, Z, rest, d_of, count, index, voxel, start, stop, part_of, misses}
+use Rattle.ray.specs.declared.axes.Side.{Side}
+use Rattle.ray.specs.declared.axes.Side.TheVariants.{X, Y, Z}
+use Rattle.ray.specs.Length.{rest, d_of, count, index, voxel, start, stop, part_of, misses}
 use Rattle.ray.proofs.Way.{Way, up, down, still}
 use Rattle.ray.proofs.Indices.{number, index_number, number_below, index_below, index_same}
-use Rattle.line.specs.declared.scene.Scene.{Scene}
+use Rattle.line.specs.Scene.{Scene}
 use Rattle.line.specs.Scene.{line, Able, held_at, Within}
 use Rattle.line.proofs.Three.{most, least, most_le, le_most, least_le, least_one, lt_least, least_mono, most_mono, most_same, least_same}
 use Rattle.line.proofs.Stretch.{onward, Left, Next, next as next-voxel, enter_whole, leave_whole, held_whole, one_voxel}

@@ -1,33 +1,33 @@
 -- The walk as a function on numbers, with nothing of the geometry: what the code does, turn by turn. Definitions only. Assumes nothing.
 use Rattle.std.specs.Prelude.{◌≡◌, ℕ, zero, suc, ◌+◌, ◌-◌, ◌*◌, ◌/◌, ◌%◌, ◌^◌, ◌<◌, ◌≤◌, min, cond, List, [], ◌∷◌, ◌++◌, map, length, drop, ◌==◌, nat_le, slice_index}
-use Rattle.ray.specs.Length.{Side, X, Y, Z}
+use Rattle.ray.specs.declared.axes.Side.{Side}
+use Rattle.ray.specs.declared.axes.Side.TheVariants.{X, Y, Z}
+use Rattle.ray.specs.Side.{of_side, with_side}
 use Rattle.walk.specs.declared.steps.Walk.{Walk}
 use Rattle.walk.specs.declared.steps.Strides.{Strides}
 use Rattle.walk.specs.declared.entries.Tally.{Tally}
 
 -- the walk's fields by side
 abbrev pub leave_of : Walk → Side → ℕ
-leave_of w X = w.x
-leave_of w Y = w.y
-leave_of w Z = w.z
+leave_of w o = of_side w.leave o
 
 abbrev pub step_of : Strides → Side → ℕ
-step_of t X = t.dx
-step_of t Y = t.dy
-step_of t Z = t.dz
+step_of t o = of_side t.step o
 
 abbrev pub jump_of : Strides → Side → ℕ
-jump_of t X = t.vx
-jump_of t Y = t.vy
-jump_of t Z = t.vz
+jump_of t o = of_side t.jump o
 
 -- the tick at which the walk leaves its voxel
 abbrev pub soonest : Walk → ℕ
-soonest w = min w.x (min w.y w.z)
+soonest w = min w.leave.x (min w.leave.y w.leave.z)
 
 -- the tick of the plane after the one by which the walk leaves its voxel on a side: planes lie at equal steps, and nothing else here says so
 abbrev pub next : Strides → Walk → Side → ℕ
 next s w o = leave_of w o + step_of s o
+
+-- the walk one plane on by a side, at u
+abbrev pub over_of : Strides → ℕ → Side → Walk → Walk
+over_of s u o w = record { leave = with_side w.leave o (next s w o); v = (w.v + jump_of s o) % 2 ^ 64; t = u }
 
 -- a leave tick, and v, where a side is left at u
 abbrev pub further : Strides → Walk → ℕ → Side → ℕ
@@ -40,9 +40,7 @@ unfoldable pub stepped : Strides → Walk → Walk
 stepped s w =
     let u : ℕ = soonest w in
     record {
-      x = further s w u X;
-      y = further s w u Y;
-      z = further s w u Z;
+      leave = record { x = further s w u X; y = further s w u Y; z = further s w u Z };
       v = hop s w u Z (hop s w u Y (hop s w u X w.v));
       t = u;
     }

@@ -1,20 +1,21 @@
 -- What is worked out of a scene before the walk. Definitions only. Assumes nothing.
 use Rattle.std.specs.Prelude.{◌≡◌, ℕ, ◌+◌, ◌*◌, ◌^◌, ◌<◌, ◌≤◌, not, map}
-use Rattle.ray.specs.Length.{Side, X, Y, Z, Volume, rest, d_of, array, start, stop, misses, part_of, list_of, crossed_of}
-use Rattle.line.specs.declared.scene.Scene.{Scene}
+use Rattle.ray.specs.declared.axes.Side.{Side}
+use Rattle.ray.specs.declared.axes.Side.TheVariants.{X, Y, Z}
+use Rattle.ray.specs.Length.{Volume, rest, d_of, array, start, stop, misses, part_of, list_of, crossed_of}
+use Rattle.line.specs.Scene.{Scene}
+use Rattle.ray.specs.declared.axes.Axes.{Axes}
+use Rattle.ray.specs.Side.{of_side}
 use Rattle.line.specs.Beyond.{First}
 use Rattle.line.specs.Scene.{line, volume_of, ray_of, leaves_at, Within}
 use Rattle.walk.specs.declared.steps.Walk.{Walk}
 use Rattle.walk.specs.declared.steps.Strides.{Strides}
 use Rattle.walk.specs.declared.plan.Frame.{Frame}
-use Rattle.walk.specs.declared.plan.Ahead.{Ahead}
 use Rattle.walk.specs.declared.plan.Plan.{Plan}
 use Rattle.walk.specs.Model.{leave_of, step_of, jump_of, voxels, parts, entries, planes_by, Forward}
 
 abbrev pub rest_of : Frame → Side → ℕ
-rest_of f X = f.cx
-rest_of f Y = f.cy
-rest_of f Z = f.cz
+rest_of f o = of_side f.rest o
 
 -- D, αmin and αmax times D, and whether the ray hits
 pub record Framed (s : Scene) (f : Frame) : Type 0 where
@@ -36,13 +37,8 @@ pub record Strided (s : Scene) (f : Frame) (t : Strides) : Type 0 where
   pub downward : (o : Side) → (line s o).q ≤ (line s o).p → jump_of t o + unit (volume_of s) o ≡ 2 ^ 32
 
 -- on each axis the first plane after αmin
-abbrev pub plane_of : Ahead → Side → ℕ
-plane_of a X = a.x
-plane_of a Y = a.y
-plane_of a Z = a.z
-
-pub record Facing (s : Scene) (f : Frame) (a : Ahead) : Type 0 where
-  pub first : (o : Side) → First (line s o) (rest_of f o) f.from (plane_of a o)
+pub record Facing (s : Scene) (f : Frame) (a : Axes ℕ) : Type 0 where
+  pub first : (o : Side) → First (line s o) (rest_of f o) f.from (of_side a o)
 
 -- the walk's first voxel, at `at` on each axis
 pub record Begun (s : Scene) (f : Frame) (w : Walk) : Type 0 where

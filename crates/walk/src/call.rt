@@ -68,17 +68,15 @@ pub fn walk(
 {
     let f = frame_of(s);
     let squared = squared_of(s);
-    let denominator = f.denominator;
     if f.hit {
         let p = ordered(plan_of(s, f));
         let most = (s.x.n + s.y.n + s.z.n - 2) as usize;
         let t = enter(p, f.to, most, room, densities, voxels, parts);
-        let span = f.to - f.from;
         return Walked {
             entries: t.entries,
             crossed: t.crossed,
-            span,
-            denominator,
+            span: f.to - f.from,
+            denominator: f.denominator,
             squared,
             sum: t.sum,
         };
@@ -87,7 +85,7 @@ pub fn walk(
         entries: 0,
         crossed: 0,
         span: 0,
-        denominator,
+        denominator: f.denominator,
         squared,
         sum: 0,
     }

@@ -12,7 +12,7 @@ pub struct Tally {
     pub sum: u64,
 }
 
-// How many entries there are up to the tick `to`: no list is needed for that.
+// How many entries there are up to the tick `to`: no list is needed for that. The walk ends this loop and the next, and no list does.
 pub fn count(begin: Walk, s: Strides, to: u64) -> usize
     requires { Forward s to begin }
     ensures { result ≡ length (entries s to begin) }
@@ -30,7 +30,9 @@ pub fn count(begin: Walk, s: Strides, to: u64) -> usize
 }
 
 // Puts the entries up to the tick `to` at the front of the two lists. A part is the difference of two neighbouring α of equation
-// (10), times D. The sum of equation (14) is made on the way: while one density is fetched, the walk goes on to the next.
+// (10), times D. The sum of equation (14) is made on the way: while one density is fetched, the walk goes on to the next. It is compiled
+// by itself, so that how fast a turn is does not hang on what stands around it.
+#[inline(never)]
 pub fn fill(
     begin: Walk,
     s: Strides,
@@ -57,12 +59,10 @@ pub fn fill(
         if to <= next.t {
             let part = to - w.t;
             parts[r] = part;
-            let entries = r + 1;
-            let crossed = w.v / 4294967296;
             let sum = sum + part * density;
             return Tally {
-                entries,
-                crossed,
+                entries: r + 1,
+                crossed: w.v / 4294967296,
                 sum,
             };
         }

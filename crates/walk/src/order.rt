@@ -1,11 +1,12 @@
 // The axes of a walk in the order of their strides. The entries are the same in any order; but the axis that is crossed most often is
 // then always tested first, whatever the ray, so that the machine foresees more of the turns.
-ghost use Rattle.std.specs.Prelude.{◌≡◌};
+ghost use Rattle.std.specs.Prelude.{◌≡◌, cond};
 ghost use Rattle.walk.specs.Order.{exchange_of, ordered_of};
 
 use crate::plan::Plan;
 use crate::steps::{Strides, Walk};
-use line::extremes::either;
+use ray::axes::Axes;
+use std::hint::select_unpredictable;
 
 // One axis of a walk: the tick at which the voxel is left, the ticks from plane to plane, and what a plane crossed adds to v.
 #[derive(Clone, Copy)]
@@ -15,70 +16,48 @@ pub struct Track {
     pub jump: u64,
 }
 
-#[derive(Clone, Copy)]
-pub struct Pair {
-    pub first: Track,
-    pub second: Track,
+// One of two tracks, chosen number by number: of a track as a whole the compiler makes a branch.
+fn chosen(first: bool, a: Track, b: Track) -> Track
+    ensures { result ≡ cond first a b }
+{
+    Track {
+        leave: select_unpredictable(first, a.leave, b.leave),
+        step: select_unpredictable(first, a.step, b.step),
+        jump: select_unpredictable(first, a.jump, b.jump),
+    }
 }
 
 // Which of two is the first is as hard to foresee as the turns, so it is not branched on.
-fn exchange(a: Track, b: Track) -> Pair
+fn exchange(a: Track, b: Track) -> (Track, Track)
     ensures { result ≡ exchange_of a b }
 {
     let turned = b.step < a.step;
-    let first = Track {
-        leave: either(turned, b.leave, a.leave),
-        step: either(turned, b.step, a.step),
-        jump: either(turned, b.jump, a.jump),
-    };
-    let second = Track {
-        leave: either(turned, a.leave, b.leave),
-        step: either(turned, a.step, b.step),
-        jump: either(turned, a.jump, b.jump),
-    };
-    Pair { first, second }
+    (chosen(turned, b, a), chosen(turned, a, b))
 }
 
 pub fn ordered(p: Plan) -> Plan
     ensures { result ≡ ordered_of p }
 {
-    let w = p.walk;
-    let s = p.strides;
-    let x = Track {
-        leave: w.x,
-        step: s.dx,
-        jump: s.vx,
-    };
-    let y = Track {
-        leave: w.y,
-        step: s.dy,
-        jump: s.vy,
-    };
-    let z = Track {
-        leave: w.z,
-        step: s.dz,
-        jump: s.vz,
-    };
-    let near = exchange(x, y);
-    let far = exchange(near.second, z);
-    let last = far.second;
-    let front = exchange(near.first, far.first);
-    let first = front.first;
-    let second = front.second;
-    let walk = Walk {
-        x: first.leave,
-        y: second.leave,
-        z: last.leave,
-        v: w.v,
-        t: w.t,
-    };
-    let strides = Strides {
-        dx: first.step,
-        dy: second.step,
-        dz: last.step,
-        vx: first.jump,
-        vy: second.jump,
-        vz: last.jump,
-    };
-    Plan { walk, strides }
+    let Plan {
+        walk: w,
+        strides: s,
+    } = p;
+    let Axes { x, y, z } = w
+        .leave
+        .zip(s.step.zip(s.jump))
+        .map(|(leave, (step, jump))| Track { leave, step, jump });
+    let (x, y) = exchange(x, y);
+    let (y, z) = exchange(y, z);
+    let (x, y) = exchange(x, y);
+    let tracks = Axes { x, y, z };
+    Plan {
+        walk: Walk {
+            leave: tracks.map(|a| a.leave),
+            ..w
+        },
+        strides: Strides {
+            step: tracks.map(|a| a.step),
+            jump: tracks.map(|a| a.jump),
+        },
+    }
 }

@@ -16,5 +16,5 @@ returns c =
       code_is = ap (λ (u : Trace). u.code) t.answer;
       voxels_now = t.voxels_now;
       parts_now = t.parts_now;
-      answer_now = c.put_answer.ensures ∙ ap (λ (u : Trace). put (six_of u) c.args.answer.now) t.answer;
+      answer_now = c.put.ensures ∙ ap (λ new. put new c.args.answer.now) (c.six_of.ensures ∙ ap (λ (u : Trace). six_of u) t.answer);
     })

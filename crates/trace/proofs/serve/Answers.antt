@@ -7,5 +7,4 @@ use Rattle.trace.proofs.serve.Goals as goal
 
 pub loop-init : goal.loop-init
 loop-init g c =
-    let new = c.new-st.ensures.sound in
-    record { input_kept = refl; kept = as_long {k = held c.args.line.now c.args.densities.now c.args.out.now}; sound = new.0; begun = new_begun c.args.line.now new.1 }
+    record { piece_kept = refl; kept = as_long {k = held c.args.line.now c.args.densities.now c.args.out.now}; begun = new_begun c.args.line.now c.new-st.ensures.unbegun }

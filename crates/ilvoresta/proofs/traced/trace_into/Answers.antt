@@ -1,7 +1,7 @@
 -- `traced::trace_into`: the answer of the trace, told in a list.
-use Rattle.std.proofs.Common.{eq-eqb, ne_eqb}
-use Rattle.tracing.proofs.OneCall.{made}
-use Rattle.ilvoresta.proofs.Answered.{untraced, other_length, traced}
+use Rattle.std.proofs.Common.{◌∙◌, ap}
+use Rattle.ilvoresta.specs.Entry.{after}
+use Rattle.ilvoresta.proofs.Answered.{untraced, traced}
 use Rattle.ilvoresta.proofs.traced.trace_into.Goals as goal
 
 -- src/traced.rt
@@ -10,12 +10,8 @@ use Rattle.ilvoresta.proofs.traced.trace_into.Goals as goal
 pub returns-then-t-ne0 : goal.returns-then-t-ne0
 returns-then-t-ne0 c = untraced _ c.trace_when-t.ensures c.if-t-ne0.true
 
--- a trace, and the list filled
-pub returns-then-ready : goal.returns-then-ready
-returns-then-ready c =
-    rw c.put_six.ensures (traced (made c.trace_when-t.ensures (eq-eqb _ 6 c.if-ready.true)) c.if-t-ne0.false c.if-ready.true)
-
+-- a trace, and the list filled where its length is right
 pub returns : goal.returns
 returns c =
-    -- a list of another length, into which nothing is put
-    other_length c.trace_when-t.ensures (ne_eqb _ 6 c.if-ready.false) c.if-t-ne0.false c.if-ready.false
+    let list_now = c.fill.ensures.answer_after ∙ ap (λ new. after c.fill.result new c.args.answer.now) c.six_of.ensures in
+    traced c.trace_when-t.ensures c.if-t-ne0.false c.fill.ensures.value list_now

@@ -5,10 +5,10 @@ use Rattle.job.specs.Stand.{Stand}
 use Rattle.job.proofs.Running.{wrote_job}
 use Rattle.job.proofs.whole.job.Goals as goal
 
-pub run-requires-clause-sound : goal.run-requires-clause-sound
-run-requires-clause-sound c =
+pub run-requires-clause-unread : goal.run-requires-clause-unread
+run-requires-clause-unread c =
     let new = c.new-st.ensures in
-    (new.sound.0, ap (λ (s : Stand). s.load.lines + s.rays) (new.stands []), new.sound.1)
+    (ap (λ (s : Stand). s.load.lines + s.rays) (new.stands []), new.unbegun)
 
 pub returns : goal.returns
 returns c =

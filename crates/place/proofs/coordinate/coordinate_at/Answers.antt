@@ -11,8 +11,7 @@ use Rattle.axis.proofs.Shift.{shift}
 use Rattle.axis.proofs.Bounds.{inside_most}
 use Rattle.line.specs.Raised.{Small}
 use Rattle.line.proofs.Sizes.{two_sizes}
-use Rattle.place.specs.declared.fraction.Fraction.{Fraction}
-use Rattle.place.specs.Deciding.{OnRay}
+use Rattle.place.specs.Ratio.{Ratio, Short}
 use Rattle.place.specs.Answers.{nearest, coordinate}
 use Rattle.place.proofs.Difference.{diff_size}
 use Rattle.place.proofs.Quotient.{whole_in, quotient_is}
@@ -25,13 +24,13 @@ fits64 (pos n) h = record { sfits = omega arith }
 fits64 (negsuc n) h = record { sfits = omega arith }
 
 -- both ends as they are read and told from -k up, and the place between them
-told_by : (k : ℕ) (p q : ℤ) (f : Fraction) → FitsSigned w32 p → FitsSigned w32 q → {a b told : ℕ} → a ≡ shift k (to_z w32 (of_z w32 p)) → b ≡ shift k (to_z w32 (of_z w32 q))
+told_by : (k : ℕ) (p q : ℤ) (f : Ratio) → FitsSigned w32 p → FitsSigned w32 q → {a b told : ℕ} → a ≡ shift k (to_z w32 (of_z w32 p)) → b ≡ shift k (to_z w32 (of_z w32 q))
     → told ≡ spot a b f.num f.den → told ≡ spot (shift k p) (shift k q) f.num f.den
 told_by k p q f p_fits q_fits p_is q_is h =
     h ∙ (λ i. spot ((rw (to_z-of_z w32 p p_fits) at p_is) i) ((rw (to_z-of_z w32 q q_fits) at q_is) i) f.num f.den)
 
 -- the numbers of the body, and that each is small
-module _ (m : Limits) (leg : Leg) (f : Fraction) (small : Small m) (both : (inside m leg.p ≡ true) × (inside m leg.q ≡ true)) (on_ray : OnRay f) where
+module _ (m : Limits) (leg : Leg) (f : Ratio) (small : Small m) (both : (inside m leg.p ≡ true) × (inside m leg.q ≡ true)) (short : Short f) (on_ray : f.num ≤ f.den) where
   abbrev k : ℕ
   k = m.coord
 
@@ -48,13 +47,13 @@ module _ (m : Limits) (leg : Leg) (f : Fraction) (small : Small m) (both : (insi
   v = spot (shift k leg.p) (shift k leg.q) f.num f.den
 
   v_most : v ≤ 2 ^ 40
-  v_most = spot_short (shift k leg.p) (shift k leg.q) f p_most q_most on_ray
+  v_most = spot_short (shift k leg.p) (shift k leg.q) f p_most q_most short on_ray
 
   abbrev by : ℕ
   by = k * f.den
 
   by_most : by ≤ 2 ^ 40
-  by_most = two_sizes (omega (arith, room)) on_ray.short.1
+  by_most = two_sizes (omega (arith, room)) short.den_size
 
   abbrev z : ℤ
   z = pos v -ℤ pos by
@@ -86,44 +85,49 @@ module _ (m : Limits) (leg : Leg) (f : Fraction) (small : Small m) (both : (insi
     value : nat_abs z ≤ 2 ^ 53 → div binary64 (of_int binary64 (to_z w64 (of_z w64 (to_z w64 told -ℤ to_z w64 by)))) (of_int binary64 (pos f.den)) ≡ coordinate leg f.num f.den
     value few =
         rw (told_is, back)
-        (quotient_is z f.den few (omega (arith, on_ray.short.1)) on_ray.some
-        ∙ ap (λ (y : ℤ). nearest y f.den) (sym (exactly_is m leg both f.num f.den on_ray.most)))
+        (quotient_is z f.den few (omega (arith, short.den_size)) short.some
+        ∙ ap (λ (y : ℤ). nearest y f.den) (sym (exactly_is m leg both f.num f.den on_ray)))
 
 pub overflow_mul-by : goal.overflow_mul-by
 overflow_mul-by c =
     let a = c.args in
     let l : Leg = record { p = a.p; q = a.q } in
     let r = c.requires in
-    record { fits = omega (arith, by_most a.m l a.f r.small r.both_inside r.on_ray) }
+    let short = rw c.f.view_is at c.f.invariant in
+    rw (c.from.ensures, ap (λ (f : Ratio). f.den) c.f.view_is) record { fits = omega (arith, by_most a.m l a.f r.small r.both_inside short r.on_ray) }
 
 pub overflow_cast-num : goal.overflow_cast-num
 overflow_cast-num c =
     let a = c.args in
     let l : Leg = record { p = a.p; q = a.q } in
     let r = c.requires in
+    let short = rw c.f.view_is at c.f.invariant in
     let told_is = told_by a.m.coord a.p a.q a.f c.ranges.p c.ranges.q c.raised.ensures c.raised-2.ensures c.along-told.ensures in
-    record { sfits = told_fits a.m l a.f r.small r.both_inside r.on_ray told_is }
+    record { sfits = told_fits a.m l a.f r.small r.both_inside short r.on_ray told_is }
 
 pub overflow_sub-num : goal.overflow_sub-num
 overflow_sub-num c =
     let a = c.args in
     let l : Leg = record { p = a.p; q = a.q } in
     let r = c.requires in
+    let short = rw c.f.view_is at c.f.invariant in
     let told_is = told_by a.m.coord a.p a.q a.f c.ranges.p c.ranges.q c.raised.ensures c.raised-2.ensures c.along-told.ensures in
-    num_fits a.m l a.f r.small r.both_inside r.on_ray told_is
+    rw (c.from.ensures, ap (λ (f : Ratio). f.den) c.f.view_is) (num_fits a.m l a.f r.small r.both_inside short r.on_ray told_is)
 
 pub int_to_float-result : goal.int_to_float-result
 int_to_float-result c =
     let a = c.args in
     let l : Leg = record { p = a.p; q = a.q } in
     let r = c.requires in
+    let short = rw c.f.view_is at c.f.invariant in
     let told_is = told_by a.m.coord a.p a.q a.f c.ranges.p c.ranges.q c.raised.ensures c.raised-2.ensures c.along-told.ensures in
-    num_whole a.m l a.f r.small r.both_inside r.on_ray told_is (z_most a.m l a.f r.small r.both_inside r.on_ray)
+    rw (c.from.ensures, ap (λ (f : Ratio). f.den) c.f.view_is) (num_whole a.m l a.f r.small r.both_inside short r.on_ray told_is (z_most a.m l a.f r.small r.both_inside short r.on_ray))
 
 pub returns : goal.returns
 returns c =
     let a = c.args in
     let l : Leg = record { p = a.p; q = a.q } in
     let r = c.requires in
+    let short = rw c.f.view_is at c.f.invariant in
     let told_is = told_by a.m.coord a.p a.q a.f c.ranges.p c.ranges.q c.raised.ensures c.raised-2.ensures c.along-told.ensures in
-    value a.m l a.f r.small r.both_inside r.on_ray told_is (z_most a.m l a.f r.small r.both_inside r.on_ray)
+    rw (c.from.ensures, ap (λ (f : Ratio). f.den) c.f.view_is) (value a.m l a.f r.small r.both_inside short r.on_ray told_is (z_most a.m l a.f r.small r.both_inside short r.on_ray))

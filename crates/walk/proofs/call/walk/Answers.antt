@@ -1,6 +1,6 @@
 -- A ray that hits is set out and walked, one that misses is told so. Assumes nothing.
 use Rattle.std.proofs.Common.{arith}
-use Rattle.ray.specs.Length.{X, Y, Z}
+use Rattle.ray.specs.declared.axes.Side.TheVariants.{X, Y, Z}
 use Rattle.walk.proofs.Called.{few, dense, until_few, from_to, hit_walked, miss_walked}
 use Rattle.walk.proofs.Ordering.{ordered_plan}
 use Rattle.walk.proofs.call.walk.Goals as goal
@@ -24,8 +24,8 @@ pub enter-t-requires-clause-enough : goal.enter-t-requires-clause-enough
 enter-t-requires-clause-enough c =
     omega (arith, few c.requires.able.0 c.frame_of-f.ensures c.if-f.true (ordered_plan c.ordered-p.ensures c.plan_of.ensures.planned))
 
-pub overflow_sub-span : goal.overflow_sub-span
-overflow_sub-span c = from_to c.requires.able.0 c.frame_of-f.ensures c.if-f.true (ordered_plan c.ordered-p.ensures c.plan_of.ensures.planned)
+pub overflow_sub-result : goal.overflow_sub-result
+overflow_sub-result c = from_to c.requires.able.0 c.frame_of-f.ensures c.if-f.true (ordered_plan c.ordered-p.ensures c.plan_of.ensures.planned)
 
 pub returns-then-f : goal.returns-then-f
 returns-then-f c =

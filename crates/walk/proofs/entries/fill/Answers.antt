@@ -42,8 +42,8 @@ bounds-parts-r-in-loop-s c = index_p c.loop-s.invariant _ refl
 pub overflow_sub-part : goal.overflow_sub-part
 overflow_sub-part c = omega (arith, c.loop-s.invariant.forward.before)
 
-pub overflow_add-entries : goal.overflow_add-entries
-overflow_add-entries c = record { fits = omega (arith, counted_few c.loop-s.invariant _ refl) }
+pub overflow_add-result : goal.overflow_add-result
+overflow_add-result c = record { fits = omega (arith, counted_few c.loop-s.invariant _ refl) }
 
 pub overflow_mul-sum : goal.overflow_mul-sum
 overflow_mul-sum c = record { fits = omega (arith, sum_fits c.loop-s.invariant _ (with_ray (next_tick c.loop-s.invariant.forward c.step-next.ensures) c.if-to-next.true)) }

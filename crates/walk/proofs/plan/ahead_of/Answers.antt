@@ -1,5 +1,5 @@
 -- αmin lies in the array on each axis, so a plane is ahead of it. Assumes nothing.
-use Rattle.ray.specs.Length.{X, Y, Z}
+use Rattle.ray.specs.declared.axes.Side.TheVariants.{X, Y, Z}
 use Rattle.walk.proofs.Plans.{at_first_lem}
 use Rattle.walk.proofs.plan.ahead_of.Goals as goal
 

@@ -10,5 +10,5 @@ returns c = λ rest.
     let q = c.args.self.q in
     let lo = c.args.lo in
     let hi = c.args.hi in
-    aimed_is p q lo hi (λ n. n * rest) c.either.ensures c.run.ensures
+    aimed_is p q lo hi (λ n. n * rest) c.select_unpredictable.ensures c.run.ensures
     (λ g. enters_is up p q lo hi rest g c.requires) (λ g. enters_is down p q lo hi rest (omega arith) c.requires)

@@ -48,11 +48,11 @@ pub quotient_near-i-requires : goal.quotient_near-i-requires
 quotient_near-i-requires c =
     let a = c.args in
     let at_least = low a.self a.c a.from a.next a.first c.requires.sized c.requires.stretch in
-    (c.requires.sized.0, omega (arith, c.requires.sized.2.some), omega (arith, c.requires.sized.1), rw c.spot-middle.ensures.value at_least, omega (arith, c.past-near.ensures, c.requires.sized.3))
+    (c.requires.sized.0, omega (arith, c.requires.sized.2.some), omega (arith, c.requires.sized.1), rw c.spot-middle.ensures.value at_least, omega (arith, c.saturating_sub-near.ensures, c.requires.sized.3))
 
 pub returns : goal.returns
 returns c =
     let a = c.args in
-    let e : c.least.result ≡ i a.self a.c a.from a.next a.first c.requires.sized c.requires.stretch =
-    c.least.ensures ∙ rw (c.quotient_near-i.ensures, c.spot-middle.ensures.value) (is a.self a.c a.from a.next a.first c.requires.sized c.requires.stretch) in
+    let e : c.min.result ≡ i a.self a.c a.from a.next a.first c.requires.sized c.requires.stretch =
+    c.min.ensures ∙ rw (c.quotient_near-i.ensures, c.spot-middle.ensures.value) (is a.self a.c a.from a.next a.first c.requires.sized c.requires.stretch) in
     rw e (within a.self a.c a.from a.next a.first c.requires.sized c.requires.stretch)

@@ -1,0 +1,12 @@
+-- The library's split gives the fields. Assumes nothing.
+use Rattle.std.proofs.Common.{ap, ◌∙◌, length, eqb, rules, tests}
+use Rattle.std.proofs.lemmas.Iterator.Consumers.{count_from_yields_List}
+use Rattle.std.proofs.lemmas.Iterator.Splits.{YieldsList-from_slice_split}
+use Rattle.text.proofs.Split.{slice_split_is}
+use Rattle.text.proofs.fields.count.Goals as goal
+
+pub returns : goal.returns
+returns c =
+    count_from_yields_List c.split.result c.count.result c.count.ensures.ran
+    (YieldsList-from_slice_split _ (λ b. eqb b 9) c.args.line.now c.split.ensures.rest c.split.ensures.done c.split.ensures.closure (λ x b q k. search (rules, tests)))
+    ∙ ap length (slice_split_is 9 c.args.line.now)
