@@ -1,5 +1,5 @@
 -- The whole job in memory: what its loop keeps, and what it comes to. Assumes nothing.
-use Prim.Native.Nat.{ℕ, ◌+◌, ◌-◌, ◌≤◌, ◌<◌}
+use Prim.Native.Nat.{ℕ, suc, ◌+◌, ◌-◌, ◌≤◌, ◌<◌}
 use mathlib.Core.Bool.{Bool, true, false, cond}
 use mathlib.Core.List.{List, [], ◌++◌, append_assoc, append-nil}
 use mathlib.Core.Path.{◌≡◌, refl, ap, sym, ◌∙◌, subst}
@@ -77,6 +77,16 @@ pub record Running (text input : List ℕ) (k₀ : Held) (out₀ : List ℕ) (k 
   pub room : to ≤ length out
   pub same : text ≡ take to out ++ onward st k.line k.densities (drop next input)
 
+-- what is left to do
+abbrev pub left : Bool → (input : List ℕ) → ℕ → ℕ
+left going input next = cond going (suc (length input - next)) 0
+
+-- where the job is over, what stands is all of it
+pub run_over : (going : Bool) (text input out₀ out : List ℕ) (st : State) (k : Held) (next to : ℕ) → going ≡ false
+    → text ≡ take to out ++ more going (onward st k.line k.densities (drop next input)) → to ≤ length out → length out ≡ length out₀
+    → Wrote text (length out₀) out (Some to)
+run_over going text input out₀ out st k next to over same room kept = wrote_all out (same ∙ rw over (append-nil (take to out))) room kept
+
 pub new_begun : {have : ℕ} (line : List ℕ) → have ≡ 0 → Begun have line
 unfolding until
 new_begun line h = record { short = omega arith; unended = rw h refl }
@@ -105,8 +115,12 @@ module _ {text input out₀ out : List ℕ} {k₀ k : Held} {st : State} {next t
         ∙ ap (λ (l : List ℕ). take to out ++ l) (rw (append-nil, append-nil) at t.same)
         ∙ sym (append_assoc (take to out) (take p.moved.at k'.out) rest)
 
-    pub run_less : p.moved.going ≡ true → length input - p.next < length input - next
-    run_less e = omega (arith, t.moves e, t.within)
+    pub run_less : {going : Bool} → going ≡ true → left p.moved.going input p.next < left going input next
+    run_less {going} go = subst (λ (b : Bool). left p.moved.going input p.next < left b input next) (sym go) (less p.moved.going t.moves)
+      where
+        less : (b : Bool) → (b ≡ true → next < p.next) → left b input p.next < suc (length input - next)
+        less true h = omega (arith, h refl, t.within)
+        less false h = omega arith
 
     module _ (same-room : length k'.out ≡ length k.out) where
       pub part_length : length (take p.moved.at k'.out) ≡ p.moved.at

@@ -11,6 +11,7 @@ use borrow.Author.Tests.{eqb-true}
 use Rattle.std.proofs.lemmas.List.{take_rest}
 use Rattle.std.proofs.lemmas.Slice.{take-put_mid}
 use borrow.Rule.Slice.PartMut.{put_mid}
+use Rattle.std.specs.Prelude.{min}
 use Rattle.text.specs.Split.{until}
 use Rattle.text.proofs.Split.{until_within}
 use Rattle.load.specs.declared.cut.Cut.TheVariants.{Line, More}
@@ -38,6 +39,17 @@ until_front sep (x ∷ xs) = go (eqb x sep) refl (until_front sep xs)
     go true e f = refl
     go false e f = rw (e, f) refl
 
+-- the first m bytes tell as much of it as lies among them
+pub until_take : (sep m : ℕ) (xs : List ℕ) → until sep (take m xs) ≡ min m (until sep xs)
+unfolding until
+until_take sep zero xs = omega arith
+until_take sep (suc m) [] = omega arith
+until_take sep (suc m) (x ∷ xs) = go (eqb x sep) (until_take sep m xs)
+  where
+    go : (b : Bool) → until sep (take m xs) ≡ min m (until sep xs) → cond b zero (suc (until sep (take m xs))) ≡ min (suc m) (cond b zero (suc (until sep xs)))
+    go true e = omega arith
+    go false e = omega arith
+
 pub until_met : (sep : ℕ) (xs : List ℕ) → until sep xs < length xs → xs ≡ take (until sep xs) xs ++ (sep ∷ drop (suc (until sep xs)) xs)
 unfolding until
 until_met sep [] h = absurd (omega arith)
@@ -64,17 +76,25 @@ module _ {have : ℕ} {line : List ℕ} (b : Begun have line) (piece : List ℕ)
   rest_is : rest ≡ drop from piece
   rest_is = take_rest piece from
 
-  module _ {n : ℕ} (is : n ≡ until 10 rest) where
+  -- how many bytes of it are looked at, and how many of these stand ahead of an LF
+  module _ {m n : ℕ} (seen : m ≡ min (length rest) (4097 - have)) (is : n ≡ until 10 (take m rest)) where
+    among : n ≡ min m (until 10 rest)
+    among = is ∙ until_take 10 m rest
+
     pub cut_long : 4096 - have < n → 4096 < until 10 (take have line ++ drop from piece)
-    cut_long h = rw (← rest_is) (omega (arith, is, until_behind 10 (take have line) rest (begun_plain b), begun_length b))
+    cut_long h = rw (← rest_is) (omega (arith, among, until_behind 10 (take have line) rest (begun_plain b), begun_length b))
 
     -- where the bytes ahead of the next LF are put behind those that stand
     module _ {new : List ℕ} (copied : new ≡ take n rest) (room : n ≤ 4096 - have) (long : 4096 ≤ length line) where
+      -- where they are not too many, the whole piece was as good as looked at
+      told : n ≡ until 10 rest
+      told = omega (arith, among, seen, until_within 10 rest)
+
       abbrev line' : List ℕ
       line' = put_mid have (have + n - have) line new
 
       within : n ≤ length rest
-      within = omega (arith, is, until_within 10 rest)
+      within = omega (arith, told, until_within 10 rest)
 
       put : take (have + n) line' ≡ take have line ++ take n rest
       put =
@@ -84,7 +104,7 @@ module _ {have : ℕ} {line : List ℕ} (b : Begun have line) (piece : List ℕ)
       cut_begun : Begun (have + n) line'
       cut_begun = record {
         short = omega (arith, b.short);
-        unended = ap (until 10) put ∙ until_behind 10 (take have line) (take n rest) (begun_plain b) ∙ rw (begun_length b, is, until_front 10 rest) refl;
+        unended = ap (until 10) put ∙ until_behind 10 (take have line) (take n rest) (begun_plain b) ∙ rw (begun_length b, told, until_front 10 rest) refl;
       }
 
       pub cut_more : length rest ≤ n → CutInto (More (have + n)) (take have line) piece from line'
@@ -93,6 +113,17 @@ module _ {have : ℕ} {line : List ℕ} (b : Begun have line) (piece : List ℕ)
       pub cut_ends : n < length rest → CutInto (Line (have + n) (from + n + 1)) (take have line) piece from line'
       cut_ends h =
           let behind : from + suc n ≡ from + n + 1 = omega arith in
-          let met = rw (← is) at (until_met 10 rest (rw (← is) h)) in
+          let met = rw (← told) at (until_met 10 rest (rw (← told) h)) in
           let parts : drop from piece ≡ take n rest ++ (10 ∷ drop (suc n) (drop from piece)) = sym rest_is ∙ met ∙ ap (λ r. take n rest ++ (10 ∷ drop (suc n) r)) rest_is in
           (cut_begun, ap (λ r. take have line ++ r) parts ∙ rw (put, append_assoc, drop-drop, behind) refl, omega arith, omega (arith, ap length rest_is, length-drop from piece))
+
+-- The same byte by byte: up to i the piece is cut, and the first n bytes of the line are what has begun.
+pub record Cutting (before piece : List ℕ) (from : ℕ) (line₀ line : List ℕ) (i n : ℕ) : Type 0 where
+  pub within : i ≤ length piece
+  pub since : from ≤ i
+  pub kept : length line ≡ length line₀
+  pub begun : Begun n line
+  pub same : before ++ drop from piece ≡ take n line ++ drop i piece
+
+pub cut_begins : {piece : List ℕ} {from : ℕ} {line₀ : List ℕ} {have : ℕ} → from ≤ length piece → Begun have line₀ → Cutting (take have line₀) piece from line₀ line₀ from have
+cut_begins h b = record { within = h; since = omega arith; kept = refl; begun = b; same = refl }

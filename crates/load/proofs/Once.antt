@@ -15,6 +15,8 @@ use Rattle.axis.specs.declared.refusal.Refusal.TheVariants.{Count, Spacing, Plan
 use Rattle.axis.proofs.Once.{once}
 use Rattle.ray.specs.Length.{volume, count}
 use Rattle.text.specs.Split.{until}
+use Rattle.text.specs.declared.word.Kind.{Kind}
+use Rattle.text.specs.declared.word.Kind.TheVariants as kind
 use Rattle.load.specs.declared.cut.Cut.{Cut}
 use Rattle.load.specs.declared.cut.Cut.TheVariants.{Line, More}
 use Rattle.load.specs.declared.cut.Cut.TheVariants as cut
@@ -22,7 +24,7 @@ use Rattle.load.specs.declared.refusal.Bad.{Bad}
 use Rattle.load.specs.declared.refusal.Bad.TheVariants.{Grid, Long, Word, Due, Fields, Number, Voxels}
 use Rattle.load.specs.declared.state.Load.{Load}
 use Rattle.load.specs.Cut.{Begun, CutInto}
-use Rattle.load.specs.Loaded.{Loaded, nothing, loaded_of}
+use Rattle.load.specs.Loaded.{Loaded, nothing, kind_number, due_at, loaded_of}
 use Rattle.load.specs.Line.{Reading, takes, refuses, leaves, line_read}
 use Rattle.load.specs.Refusal.{bad_number}
 use Rattle.load.specs.Read.{reading_of}
@@ -77,6 +79,19 @@ state_is st ds s = ap (λ (n : ℕ). record { limits = st.limits; grid = st.grid
 
 pub new_once : (m : Limits) (r s : Load) → ((ds : List ℕ) → loaded_of r ds ≡ nothing m) → Sound r → ((ds : List ℕ) → loaded_of s ds ≡ nothing m) → Sound s → r ≡ s
 new_once m r s e x f y = once (state_is r [] x ∙ ap state_of (once (e []) (f []))) (state_is s [] y)
+
+-- a kind of line by its number
+abbrev kind_at : ℕ → Kind
+kind_at n = get_or (kind.Grid ∷ kind.Dens ∷ []) n kind.Own
+
+kind_back : (k : Kind) → kind_at (kind_number k) ≡ k
+kind_back kind.Grid = refl
+kind_back kind.Dens = refl
+kind_back kind.Own = refl
+
+-- `due`
+pub due_once : (st : Load) (r s : Kind) → kind_number r ≡ due_at st.lines st.left → kind_number s ≡ due_at st.lines st.left → r ≡ s
+due_once st r s e f = sym (kind_back r) ∙ ap kind_at (once e f) ∙ kind_back s
 
 -- a refusal by its code
 abbrev bad_of : ℕ → Bad

@@ -21,7 +21,8 @@ pub fn cut_line(line: &mut [u8], have: usize, piece: &[u8], from: usize) -> Cut
     ensures { CutInto result (take have line.old) piece.now from line.new }
 {
     let rest = &piece[from..];
-    let n = len_until(rest, b'\n');
+    // A byte more than a line takes tells that it is too long, however much follows.
+    let n = len_until(&rest[..rest.len().min(4097 - have)], b'\n');
     if 4096 - have < n {
         return Cut::Long;
     }

@@ -1,5 +1,5 @@
 // A DENS line.
-ghost use Rattle.std.specs.Prelude.{◌≡◌, ◌≤◌, ◌<◌, length, IfOk};
+ghost use Rattle.std.specs.Prelude.{◌≡◌, ◌≤◌, ◌<◌, length, IfOk, OnErr};
 ghost use Rattle.text.specs.Split.{split};
 ghost use Rattle.text.specs.Numbers.{natural_to};
 ghost use Rattle.load.specs.Loaded.{loaded_of};
@@ -32,9 +32,15 @@ pub fn take_dens(st: Load, line: &[u8], densities: &mut [u16]) -> Result<Load, B
     requires { Sound st × (0 < st.lines) × (0 < st.left) × (4096 ≤ length densities.old) }
     ensures kept { IfOk result (Further st) }
     ensures reading { taking_of result densities.new ≡ dens_read (loaded_of st densities.old) (dens_in st.grid.x.n (split 9 line.now)) }
+    ensures refused { OnErr result (densities.new ≡ densities.old) }
 {
-    let filled = st.filled + st.grid.x.n as usize;
-    numbers(Density, line, 0, &mut densities[st.filled..filled]).ok_or(Bad::Number)?;
+    let nx = st.grid.x.n as usize;
+    let filled = st.filled + nx;
+    // The densities take a row that is read whole, so that one that is refused leaves them as they were.
+    let mut places = [0u16; 512];
+    let row = &mut places[..nx];
+    numbers(Density, line, 0, row).ok_or(Bad::Number)?;
+    densities[st.filled..filled].copy_from_slice(row);
     Ok(Load {
         lines: st.lines + 1,
         left: st.left - 1,

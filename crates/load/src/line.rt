@@ -1,5 +1,5 @@
 // A line, as the loader takes it.
-ghost use Rattle.std.specs.Prelude.{◌≡◌, ◌≤◌, length};
+ghost use Rattle.std.specs.Prelude.{◌≡◌, ◌≤◌, length, OnErr};
 ghost use Rattle.load.specs.Loaded.{loaded_of};
 ghost use Rattle.load.specs.Line.{line_read};
 ghost use Rattle.load.specs.Read.{reading_of};
@@ -25,6 +25,7 @@ pub fn take_line(
     requires { Sound st × (4096 ≤ length densities.old) × (length line.now ≤ 4096) }
     ensures kept { Kept st result }
     ensures reading { reading_of st result densities.new ≡ line_read word.now fields (loaded_of st densities.old) line.now }
+    ensures refused { OnErr result (densities.new ≡ densities.old) }
 {
     let due = st.due();
     check_head(line, due, st.grid.x.n, word, fields)?;

@@ -98,7 +98,7 @@ module _ (m : Limits) (g : Grid) (r : Ray) where
   unfolding crossing_of
   crossed h = rw (eq-eqb (refusal_of m g r) 0 h) refl
 
-  refused : (refusal_of m g r ≡ 0 → ⊥) → crossing_of m g r ≡ Err (refusal_of m g r)
+  pub refused : (refusal_of m g r ≡ 0 → ⊥) → crossing_of m g r ≡ Err (refusal_of m g r)
   unfolding crossing_of
   refused h = rw (ne_eqb (refusal_of m g r) 0 h) refl
 

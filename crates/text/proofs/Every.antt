@@ -1,14 +1,17 @@
 -- Fields read one after the other into a list: what the loop that reads the numbers of a line keeps. Assumes nothing.
-use Prim.Native.Nat.{ℕ, suc, ◌+◌, ◌-◌, ◌≤◌, ◌<◌}
+use Prim.Native.Nat.{ℕ, zero, suc, ◌+◌, ◌-◌, ◌≤◌, ◌<◌}
 use mathlib.Core.List.{List, [], ◌∷◌, ◌++◌, append_assoc, append-nil}
-use Rattle.std.specs.Prelude.{Option, None, Some, option_map}
+use Rattle.std.specs.Prelude.{true, Option, None, Some, option_map}
 use mathlib.Core.Path.{◌≡◌, refl, ap, sym, ◌∙◌}
-use lib.ListN.{length, take, set, length-set}
+use lib.ListN.{length, get_or, take, set, length-set}
 use lib.Seq.{take_all}
 use native.Mathlib.Omega.{arith}
-use borrow.Author.Tests.{le-leb}
+use lib.Dec.{leb}
+use borrow.Author.Tests.{le-leb, lt-leb, leb-true}
 use Rattle.text.specs.Number.{natural_of}
-use Rattle.text.specs.Numbers.{natural_to, ahead, every}
+use Rattle.text.specs.Numbers.{up_to, natural_to, ahead, every}
+use Rattle.text.proofs.Told.{none_some}
+use Rattle.std.proofs.lemmas.Option.{cond_some}
 use Rattle.std.proofs.lemmas.List.{take_more_set}
 
 -- what was read, and then what is read of the rest
@@ -19,7 +22,7 @@ behind_ahead : {A : Type 0} (p : List A) (v : A) (vs : Option (List A)) → behi
 behind_ahead p v None = refl
 behind_ahead p v (Some ws) = ap Some (sym (append_assoc p (v ∷ []) ws))
 
-behind_nil : {A : Type 0} (vs : Option (List A)) → vs ≡ behind [] vs
+pub behind_nil : {A : Type 0} (vs : Option (List A)) → vs ≡ behind [] vs
 behind_nil None = refl
 behind_nil (Some ws) = refl
 
@@ -71,5 +74,30 @@ module _ (most : ℕ) (t : List ℕ) where
   pub to_bad : natural_of t ≡ None → natural_to most t ≡ None
   to_bad e = rw e refl
 
+  pub to_over : {v : ℕ} → natural_of t ≡ Some v → most < v → natural_to most t ≡ None
+  to_over {v} e h = rw (e, lt-leb v most h) refl
+
   pub to_good : {v : ℕ} → natural_of t ≡ Some v → v ≤ most → natural_to most t ≡ Some v
   to_good {v} e h = rw (e, le-leb v most h) refl
+
+  pub to_within : {v : ℕ} → natural_to most t ≡ Some v → v ≤ most
+  to_within {v} e = bounded (natural_of t) e
+    where
+      bounded : (o : Option ℕ) → up_to most o ≡ Some v → v ≤ most
+      bounded None f = none_some f
+      bounded (Some w) f = let kept = cond_some (leb w most) w v f in omega (arith, leb-true w most kept.0, kept.1)
+
+-- what holds of every number that can be read holds of all that were
+pub every_holds : {A : Type 0} (read : List ℕ → Option A) (P : A → Type 0) (d : A) → ((t : List ℕ) (v : A) → read t ≡ Some v → P v)
+    → (n : ℕ) (fs : List (List ℕ)) {vs : List A} → every read n fs ≡ Some vs → (i : ℕ) → i < n → P (get_or vs i d)
+unfolding every
+every_holds read P d holds zero fs e i h = absurd (omega arith)
+every_holds read P d holds (suc n) [] e i h = none_some e
+every_holds {A} read P d holds (suc n) (f ∷ fs) {vs} e i h = first (read f) (every read n fs) refl (λ ws q. every_holds read P d holds n fs {vs = ws} q) e i h
+  where
+    first : (o : Option A) (os : Option (List A)) → read f ≡ o → ((ws : List A) → os ≡ Some ws → (j : ℕ) → j < n → P (get_or ws j d))
+        → ahead o os ≡ Some vs → (j : ℕ) → j < suc n → P (get_or vs j d)
+    first None os p rest r j g = none_some r
+    first (Some v) None p rest r j g = none_some r
+    first (Some v) (Some ws) p rest r zero g = rw (← (cond_some true (v ∷ ws) vs r).1) (holds f v p)
+    first (Some v) (Some ws) p rest r (suc j) g = rw (← (cond_some true (v ∷ ws) vs r).1) (rest ws refl j (omega arith))

@@ -6,5 +6,6 @@ pub mod Numeral
 pub mod Told
 pub mod Sign
 pub mod Every
+pub mod Passed
 pub mod Written
 pub mod Once

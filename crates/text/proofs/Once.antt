@@ -9,7 +9,7 @@ use lib.Dec.{eqb}
 use lib.IntN.{ℤ}
 use lib.ListN.{length, take, drop, get_or, length-drop}
 use lib.Seq.{length-take-le}
-use Rattle.std.specs.declared.ops.Range.{Range}
+use Rattle.text.specs.declared.fields.Span.{Span}
 use Rattle.text.specs.declared.word.Kind.{Kind}
 use Rattle.text.specs.Split.{grow, split, after}
 use Rattle.text.specs.Number.{natural_of, integer_of}
@@ -79,7 +79,7 @@ module _ (line : List ℕ) (k at e : ℕ) (x : Field 9 line k at e) where
   long : e - at ≡ length (get_or (split 9 line) k [])
   long = sym (length-take-le (e - at) (drop at line) (omega (arith, length-drop at line))) ∙ ap length x.1.0
 
-pub field_once : (line : List ℕ) (k : ℕ) (r r' : Range ℕ) → Field 9 line k r.start r.end → Field 9 line k r'.start r'.end → r ≡ r'
+pub field_once : (line : List ℕ) (k : ℕ) (r r' : Span) → Field 9 line k r.start r.end → Field 9 line k r'.start r'.end → r ≡ r'
 field_once line k r r' x y =
     let ends : r.end ≡ r'.end = omega (arith, behind line k r.start r.end x, behind line k r'.start r'.end y) in
     let starts : r.start ≡ r'.start = omega (arith, long line k r.start r.end x, long line k r'.start r'.end y) in

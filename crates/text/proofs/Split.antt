@@ -12,7 +12,6 @@ use native.Mathlib.Numerals.{add-one}
 use borrow.Author.Tests.{eq-eqb, ne_eqb}
 use denote.Ref.{Bor}
 use Rattle.std.specs.Prelude.{Option, Some, None}
-use Rattle.std.specs.List.{slice_split, onto_first}
 use Rattle.std.specs.Slice.{IsGetRangeResult}
 use Rattle.text.specs.Split.{grow, split, until, after, left}
 
@@ -29,16 +28,6 @@ split_first sep (x ∷ xs) = go (eqb x sep) (split_first sep xs)
     go : (b : Bool) → split sep xs ≡ cut sep (until sep xs) xs → cond b ([] ∷ split sep xs) (grow x (split sep xs)) ≡ cut sep (cond b zero (suc (until sep xs))) (x ∷ xs)
     go true e = refl
     go false e = ap (grow x) e
-
--- the library's word for it
-pub slice_split_is : (sep : ℕ) (xs : List ℕ) → slice_split (λ b. eqb b sep) xs ≡ split sep xs
-unfolding split
-slice_split_is sep [] = refl
-slice_split_is sep (x ∷ xs) = ap (λ (l : List (List ℕ)). cond (eqb x sep) ([] ∷ l) (onto_first x l)) (slice_split_is sep xs) ∙ ap (cond (eqb x sep) ([] ∷ split sep xs)) (one_more (split sep xs))
-  where
-    one_more : (l : List (List ℕ)) → onto_first x l ≡ grow x l
-    one_more [] = refl
-    one_more (f ∷ fs) = refl
 
 pub until_within : (sep : ℕ) (xs : List ℕ) → until sep xs ≤ length xs
 unfolding until
@@ -62,10 +51,30 @@ module _ (sep : ℕ) where
   unfolding until
   until_more x xs e = rw (ne_eqb x sep e, add-one) refl
 
+grown : (x sep : ℕ) (xs : List ℕ) → length (grow x (split sep xs)) ≡ length (split sep xs)
+grown x sep xs = ap (λ (l : List (List ℕ)). length (grow x l)) (split_first sep xs) ∙ sym (ap length (split_first sep xs))
+
 -- at an index of a line
 module _ (sep : ℕ) (s : List ℕ) (i : ℕ) where
+  pub count_here : i < length s → get_or s i 0 ≡ sep → length (split sep (drop i s)) ≡ suc (length (split sep (drop (i + 1) s)))
+  unfolding split
+  count_here h e = rw (add-one, drop-cons s i 0, eq-eqb (get_or s i 0) sep e) refl
+
+  pub count_on : i < length s → (get_or s i 0 ≡ sep → ⊥) → length (split sep (drop i s)) ≡ length (split sep (drop (i + 1) s))
+  unfolding split
+  count_on h e = rw (add-one, drop-cons s i 0, ne_eqb (get_or s i 0) sep e) (grown (get_or s i 0) sep (drop (suc i) s))
+
+  pub count_end : length s ≤ i → length (split sep (drop i s)) ≡ 1
+  unfolding split
+  count_end h = rw (drop_of_length-le s h) refl
+
   pub end_within : i ≤ length s → i + until sep (drop i s) ≤ length s
   end_within h = omega (arith, until_within sep (drop i s), length-drop i s)
+
+  -- behind the line nothing is left
+  pub end_behind : length s ≤ i → i ≡ i + until sep (drop i s)
+  unfolding until
+  end_behind h = rw (drop_of_length-le s h, add-zero) refl
 
   -- behind the place where a field ended
   pub after_end : length s ≤ i → after sep (drop i s) ≡ []
@@ -115,43 +124,32 @@ pub record Walk (sep : ℕ) (s : List ℕ) (k j at : ℕ) : Type 0 where
 pub walk_begins : {sep : ℕ} (s : List ℕ) (k : ℕ) → Walk sep s k 0 0
 walk_begins s k = record { within = omega arith; few = omega arith; rest = refl }
 
--- and the first of them is n bytes long
-module _ {sep : ℕ} {s : List ℕ} {k j at : ℕ} (w : Walk sep s k j at) {n : ℕ} (long : n ≡ until sep (take (length s - at) (drop at s))) where
-  ends : at + n ≡ at + until sep (drop at s)
-  ends = ap (λ (m : ℕ). at + m) (long ∙ ap (until sep) (take_all (length s - at) (drop at s) (omega (arith, length-drop at s))))
+-- and the first of them ends at e
+module _ {sep : ℕ} {s : List ℕ} {k j at : ℕ} (w : Walk sep s k j at) {e : ℕ} (ends : e ≡ at + until sep (drop at s)) where
+  from_here : drop j (split sep s) ≡ part s at e ∷ after sep (drop e s)
+  from_here = w.rest ∙ fields_from sep s at e ends
 
-  from_here : drop j (split sep s) ≡ part s at (at + n) ∷ after sep (drop (at + n) s)
-  from_here = w.rest ∙ fields_from sep s at (at + n) ends
-
-  here : part s at (at + n) ≡ get_or (split sep s) j []
+  here : part s at e ≡ get_or (split sep s) j []
   here = sym (ap (λ (l : List (List ℕ)). get_or l 0 []) from_here) ∙ get_or-drop j (split sep s) 0 [] ∙ rw add-zero refl
 
-  behind : after sep (drop (at + n) s) ≡ drop (j + 1) (split sep s)
+  behind : after sep (drop e s) ≡ drop (j + 1) (split sep s)
   behind = sym (sym (drop-drop 1 j (split sep s)) ∙ ap (drop 1) from_here)
 
-  pub walk_on : j < k → at + n < length s → Walk sep s k (j + 1) (at + n + 1)
-  walk_on more h = record { within = omega arith; few = omega arith; rest = sym behind ∙ after_sep sep s (at + n) h }
+  inside : e ≤ length s
+  inside = rw ends (end_within sep s at w.within)
 
-  module _ (last : k ≤ j) where
-    same : k ≡ j
-    same = omega (arith, w.few)
+  pub walk_on : j < k → e < length s → Walk sep s k (j + 1) (e + 1)
+  walk_on more h = record { within = omega arith; few = omega arith; rest = sym behind ∙ after_sep sep s e h }
 
-    pub there_field : part s at (at + n) ≡ get_or (split sep s) k []
-    there_field = rw same here
-
-    pub there_behind : after sep (drop (at + n) s) ≡ drop (k + 1) (split sep s)
-    there_behind = rw same behind
+  pub walk_there : k ≤ j → Field sep s k at e
+  walk_there h =
+      let there : k ≡ j = omega (arith, w.few) in
+      ((omega arith, inside), rw there (here, behind))
 
   -- past the last field
-  module _ (more : j < k) (out : length s ≤ at + n) where
-    few : length (split sep s) ≤ k
-    few = omega (arith, length-drop (j + 1) (split sep s), ap length (sym behind ∙ after_end sep s (at + n) out))
-
-    pub past_field : part s (at + n) (at + n) ≡ get_or (split sep s) k []
-    past_field = let none : at + n - (at + n) ≡ 0 = omega arith in rw none (sym (get_or-eq_default (split sep s) [] few))
-
-    pub past_behind : after sep (drop (at + n) s) ≡ drop (k + 1) (split sep s)
-    past_behind = after_end sep s (at + n) out ∙ sym (drop_of_length-le (split sep s) (omega (arith, few)))
-
--- what walks to a field
-pub ruleset walks = (walk_begins, there_field, there_behind, past_field, past_behind)
+  pub walk_past : j < k → length s ≤ e → Field sep s k e e
+  walk_past more out =
+      let few : length (split sep s) ≤ k = omega (arith, length-drop (j + 1) (split sep s), ap length (sym behind ∙ after_end sep s e out)) in
+      let fewer : length (split sep s) ≤ k + 1 = omega arith in
+      let none : e - e ≡ 0 = omega arith in
+      ((omega arith, inside), (rw none (sym (get_or-eq_default (split sep s) [] few)), after_end sep s e out ∙ sym (drop_of_length-le (split sep s) fewer)))

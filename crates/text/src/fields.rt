@@ -3,7 +3,12 @@ ghost use Rattle.std.specs.Prelude.{◌≡◌, [], ◌+◌, ◌-◌, ◌≤◌, 
 ghost use Rattle.std.specs.Iterator.{YieldsFirstRef, item_count};
 ghost use Rattle.text.specs.Split.{split, until, after, left};
 
-use std::ops::Range;
+// A part of a line: from start up to end, end left out.
+#[derive(Clone, Copy)]
+pub struct Span {
+    pub start: usize,
+    pub end: usize,
+}
 
 // How many bytes stand ahead of the first `sep`: all of them where there is none.
 pub fn len_until(bytes: &[u8], sep: u8) -> usize
@@ -13,30 +18,51 @@ pub fn len_until(bytes: &[u8], sep: u8) -> usize
     bytes.iter().position(|b| *b == sep).unwrap_or(bytes.len())
 }
 
-// How many fields the line has: one more than tabs, so an empty line has one.
+// Where the field that starts at `from` ends: at the next tab or with the line.
+#[tactic(auto, using(crate::proofs::Split::end_behind))]
+pub fn field_end(line: &[u8], from: usize) -> usize
+    ensures { result ≡ from + until 9 (drop from line.now) }
+{
+    if line.len() <= from {
+        return from;
+    }
+    from + len_until(&line[from..], b'\t')
+}
+
+// How many fields the line has: one more than tabs, so an empty line has one. The library's split leaves its loop at each tab, and
+// takes nearly twice as long.
+#[tactic(auto, using(crate::proofs::Split::count_here, crate::proofs::Split::count_on, crate::proofs::Split::count_end))]
 pub fn count(line: &[u8]) -> usize
     ensures { result ≡ length (split 9 line.now) }
 {
-    line.split(|b| *b == b'\t').count()
+    let mut n: usize = 1;
+    for b in line {
+        if *b == b'\t' {
+            n += 1;
+        }
+    }
+    n
 }
 
 // Where field k stands, counted from 0, and what is left behind it. Past the last field it is the
 // empty part at the line's end.
-#[tactic(auto, using(crate::proofs::Split::walks))]
-pub fn field(line: &[u8], k: usize) -> Range<usize>
+pub fn field(line: &[u8], k: usize) -> Span
     ensures inside { (result.start ≤ result.end) × (result.end ≤ length line.now) }
     ensures field { take (result.end - result.start) (drop result.start line.now) ≡ get_or (split 9 line.now) k [] }
     ensures behind { after 9 (drop result.end line.now) ≡ drop (k + 1) (split 9 line.now) }
 {
     let mut at = 0;
     for _ in 0..k {
-        let end = at + len_until(&line[at..], b'\t');
+        let end = field_end(line, at);
         if line.len() <= end {
-            return end..end;
+            return Span { start: end, end };
         }
         at = end + 1;
     }
-    at..at + len_until(&line[at..], b'\t')
+    Span {
+        start: at,
+        end: field_end(line, at),
+    }
 }
 
 // The fields of a line that are still to come. The library's split is not proved yet beside a `for`

@@ -15,6 +15,6 @@ returns c =
     let e = c.points-a.ensures.value in
     rw (← g, ← r) (record {
       code_is = c.code_in.ensures ∙ ap (λ (u : Points). mark_code u.mark) e;
-      mark_now = c.put.ensures ∙ ap (λ n. put (n ∷ []) c.args.mark.now) (c.mark_of.ensures ∙ ap (λ (u : Points). mark_of u.mark) e);
-      floats_now = c.put-2.ensures ∙ ap (λ new. put new c.args.floats.now) (c.floats_of.ensures ∙ ap (λ (u : Points). floats_of u) e);
+      mark_now = c.put-2.ensures ∙ ap (λ n. put (n ∷ []) c.args.mark.now) (c.mark_of.ensures ∙ ap (λ (u : Points). mark_of u.mark) e);
+      floats_now = c.put.ensures ∙ ap (λ new. put new c.args.floats.now) (c.floats_of.ensures ∙ ap (λ (u : Points). floats_of u) e);
     })
