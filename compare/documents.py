@@ -5,7 +5,7 @@ docs/PROMISES.md is held to the letter. What it has in backticks is one of these
 - a file or folder of a crate, without its ending: `axis/specs/Codes`. Where a colon follows, then up to the next such file, the end of
   the cell or the end of the sentence, each name has to be defined in that very file, and each expression to have a word that is
 - an edit: `axis/must-fail/n_512`. Every edit of the repository is named, and every law that no other proof uses
-- a public item: `tracing::calls::trace`, `axis::Axis::code`, `axis::raised`; a C function by its name alone
+- a public item: `tracing::calls::trace`, `axis::Axis::check`, `axis::raised`; a C function by its name alone
 - a crate; a path of the repository; a command or an expression, which have spaces
 """
 from __future__ import annotations

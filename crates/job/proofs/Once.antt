@@ -53,9 +53,10 @@ module _ (m : Limits) (l l' : Load) (n n' h h' : ℕ) where
       → (l ≡ l') × ((n ≡ n') × (h ≡ h'))
   numbers_once x z y z' =
       let e : stand l n [] ≡ stand l' n' [] = once (x []) (y []) in
-      let empty : (l : Load) (n : ℕ) → ((ds : List ℕ) → stand l n ds ≡ at_first m) → l.filled ≡ 0 = λ l n w. none_filled l.filled (ap (λ (t : Stand). t.load.densities) (w (0 ∷ []))) in
-      (λ i. record { limits = (e i).load.limits; grid = (e i).load.grid; lines = (e i).load.lines; left = (e i).load.left; filled = once (empty l n x) (empty l' n' y) i },
-        (λ i. (e i).rays, once z z'))
+      let empty : (l : Load) (n : ℕ) → ((ds : List ℕ) → stand l n ds ≡ at_first m) → l.filled ≡ 0 = λ l n w. none_filled l.filled (ap (λ (t : Stand). t.load.densities) (w (0 ∷ []))) in (
+        λ i. record { limits = (e i).load.limits; grid = (e i).load.grid; lines = (e i).load.lines; left = (e i).load.left; filled = once (empty l n x) (empty l' n' y) i },
+        (λ i. (e i).rays, once z z'),
+      )
 
 pub new_once : (m : Limits) (r s : State) → ((ds : List ℕ) → stand_of r ds ≡ at_first m) → r.have ≡ 0 → ((ds : List ℕ) → stand_of s ds ≡ at_first m) → s.have ≡ 0 → r ≡ s
 new_once m r s x h y k =
