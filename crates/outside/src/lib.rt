@@ -46,7 +46,7 @@ pub extern "C" fn outside_append(
     let g = grid_of(nx, ny, nz, dx, dy, dz, bx, by, bz);
     let r = ray_of(px, py, pz, qx, qy, qz);
     let t = append(g, r, densities, voxels, parts, filled);
-    put(&six_of(t), answer);
+    put(six_of(t), answer);
     t.code
 }
 
@@ -76,7 +76,7 @@ pub extern "C" fn outside_points(
     let g = grid_of(nx, ny, nz, dx, dy, dz, bx, by, bz);
     let r = ray_of(px, py, pz, qx, qy, qz);
     let a = points(g, r);
-    put(&floats_of(a), floats);
-    put(&[mark_of(a.mark)], mark);
+    put(floats_of(a), floats);
+    put([mark_of(a.mark)], mark);
     code_in(a.mark)
 }

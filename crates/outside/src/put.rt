@@ -5,11 +5,11 @@ ghost use Rattle.outside.specs.Doors.{put, mark_of, floats_of};
 
 use place::{Mark, Points};
 
-pub fn put<T: Copy>(new: &[T], out: &mut [T])
-    ensures { out.new ≡ put new.now out.old }
+pub fn put<T: Copy, const N: usize>(new: [T; N], out: &mut [T])
+    ensures { out.new ≡ put new out.old }
 {
-    if out.len() == new.len() {
-        out.copy_from_slice(new);
+    if let Some(places) = out.as_mut_array::<N>() {
+        *places = new;
     }
 }
 
